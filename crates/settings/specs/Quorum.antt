@@ -1,0 +1,43 @@
+-- The number of replicas, p and the five quorums, from the settings alone (01: Settings and thresholds). Assumes nothing.
+use Prim.Native.Nat.{ℕ, _+_, _-_, _*_, _/_, _^_}
+use Rattle.settings.specs.declared.Settings.{Settings}
+
+-- "n at most 32": the one place where the largest number of replicas stands
+abbrev pub largest : ℕ
+largest = 32
+
+-- "Views and heights stay at or below 2^62"
+abbrev pub lastView : ℕ
+lastView = 2 ^ 62
+
+abbrev pub lastHeight : ℕ
+lastHeight = 2 ^ 62
+
+module _ (s : Settings) where
+  -- n = 3f + 2c + k + 1
+  abbrev pub replicas : ℕ
+  replicas = 3 * s .f + 2 * s .c + s .k + 1
+
+  -- p is (c + k) / 2 rounded down
+  abbrev pub slack : ℕ
+  slack = (s .c + s .k) / 2
+
+  -- block certificate: (n + f + 1) / 2 rounded up
+  abbrev pub blockQuorum : ℕ
+  blockQuorum = (replicas + s .f + 2) / 2
+
+  -- weak certificate: f + p + 1
+  abbrev pub weakQuorum : ℕ
+  weakQuorum = s .f + slack + 1
+
+  -- timeout certificate: n - f - c
+  abbrev pub timeoutQuorum : ℕ
+  timeoutQuorum = replicas - s .f - s .c
+
+  -- slow release: 2f + c + 1 commits
+  abbrev pub slowQuorum : ℕ
+  slowQuorum = 2 * s .f + s .c + 1
+
+  -- fast release: n - p votes
+  abbrev pub fastQuorum : ℕ
+  fastQuorum = replicas - slack
