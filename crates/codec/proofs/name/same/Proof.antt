@@ -1,0 +1,72 @@
+use Prim.Native.Nat.{_<_}
+use Rattle.codec.proofs.Order.{same-on, same-not, same-end}
+use mathlib.Core.Path.{_≡_, refl, sym, ap, _∙_}
+use Prim.Native.Nat.{ℕ, _+_, _-_, _≤_}
+use lib.ListN.{length, drop}
+use Rattle.codec.specs.Names.{sameBytes}
+use borrow.Author.Needs.{needs}
+use native.Mathlib.Omega.{arith}
+use Rattle.codec.proofs.name.same.Statement.{statement}
+use Rattle.codec.proofs.name.same.Tie as tie
+use Rattle.codec.proofs.name.same.Reads as reads
+use Rattle.codec.proofs.name.same.Lts as lts
+
+abbrev Inv-loop : tie.InvT-loop
+Inv-loop a b i₀ i = (i ≤ 32) × (sameBytes a b ≡ sameBytes (drop i a) (drop i b))
+
+abbrev μ-loop : tie.MeasureT-loop
+μ-loop a b i₀ i = 32 - i
+
+loop-holds : tie.Need-loop-holds Inv-loop μ-loop
+loop-holds c = (search needs, refl)
+
+array-read-if1 : tie.Need-array-read-if1 Inv-loop μ-loop
+array-read-if1 c = search needs
+
+array-read-if1-2 : tie.Need-array-read-if1-2 Inv-loop μ-loop
+array-read-if1-2 c = search needs
+
+returns : tie.Need-returns Inv-loop μ-loop
+returns c =
+    let a = c .before .before .before .args in
+    let l = c .before .before .loop in
+    let ha : l .i < length (a .t1) = search needs in
+    let hb : l .i < length (a .t2) = search needs in
+    sym (l .inv .1 ∙ same-not (a .t1) (a .t2) (l .i) ha hb (c .if1 .taken))
+
+add-i : tie.Need-add-i Inv-loop μ-loop
+add-i c = search needs
+
+loop-less : tie.Need-loop-less Inv-loop μ-loop
+loop-less c = search needs
+
+loop-again : tie.Need-loop-again Inv-loop μ-loop
+loop-again c =
+    let a = c .before .before .before .args in
+    let l = c .before .before .loop in
+    let ha : l .i < length (a .t1) = search needs in
+    let hb : l .i < length (a .t2) = search needs in
+    (omega arith, l .inv .1 ∙ same-on (a .t1) (a .t2) (l .i) ha hb (c .if1 .left))
+
+returns-2 : tie.Need-returns-2 Inv-loop μ-loop
+returns-2 c =
+    let a = c .before .before .args in
+    let l = c .before .loop in
+    let ha : length (a .t1) ≡ 32 = search needs in
+    let hb : length (a .t2) ≡ 32 = search needs in
+    sym (l .inv .1 ∙ same-end (a .t1) (a .t2) (l .i) (omega arith) (omega arith))
+
+pub same-spec : {M : Type 1} → statement M
+same-spec =
+    tie.close
+    (tie.spec
+    Inv-loop
+    μ-loop
+    loop-holds
+    array-read-if1
+    array-read-if1-2
+    returns
+    add-i
+    loop-less
+    loop-again
+    returns-2)

@@ -1,0 +1,39 @@
+// Names: 32 bytes, by value, compared byte by byte.
+ghost use mathlib.Core.Path.{_≡_};
+ghost use Rattle.codec.specs.Names.{sameBytes, lessBytes, zeroName};
+
+pub fn same(a: [u8; 32], b: [u8; 32]) -> bool
+    ensures { λ r. ⌜ r ≡ sameBytes a b ⌝ }
+{
+    let mut i = 0;
+    while i < 32 {
+        if a[i] != b[i] {
+            return false;
+        }
+        i += 1;
+    }
+    true
+}
+
+pub fn less(a: [u8; 32], b: [u8; 32]) -> bool
+    ensures { λ r. ⌜ r ≡ lessBytes a b ⌝ }
+{
+    let mut i = 0;
+    while i < 32 {
+        if a[i] < b[i] {
+            return true;
+        }
+        if b[i] < a[i] {
+            return false;
+        }
+        i += 1;
+    }
+    false
+}
+
+// The all-zero name is genesis.
+pub fn is_zero(a: [u8; 32]) -> bool
+    ensures { λ r. ⌜ r ≡ sameBytes a zeroName ⌝ }
+{
+    same(a, [0u8; 32])
+}

@@ -1,0 +1,81 @@
+-- What a record says (01: Records). `content` reads any bytes; it means something where the place "shape" accepts them. Assumes nothing.
+use Prim.Native.Nat.{ℕ}
+use mathlib.Core.Bool.{Bool, cond}
+use mathlib.Core.List.{List, [], _∷_, map}
+use lib.Dec.{eqb}
+use lib.ListN.{drop}
+use Rattle.settings.specs.Answer.{Answer, judge}
+use Rattle.wire.specs.declared.Timeout.{Timeout}
+use Rattle.wire.specs.declared.Progress.{Progress}
+use Rattle.wire.specs.declared.Progress.the-variants.{Block, Timeouts}
+use Rattle.wire.specs.Fields.{kindOf, senderOf, viewOf, nameOf, signersOf, highViewOf, highNameOf, carriedKindOf, carriedViewOf, carriedNameOf, carriedSignersOf, countOf, parentOf, heightOf, progressOf, blockNameOf, blockParentOf, blockHeightOf, releaseHeightOf, slots}
+use Rattle.wire.specs.Shape.{shapeRules}
+
+-- kind 5
+unfoldable pub timeoutOf : List ℕ → Timeout
+timeoutOf r =
+    record {
+      sender = senderOf r;
+      view = record { 0 = viewOf r };
+      high = record { view = record { 0 = highViewOf r }; name = highNameOf r };
+      carried = record {
+        kind = carriedKindOf r;
+        view = record { 0 = carriedViewOf r };
+        name = carriedNameOf r;
+        signers = carriedSignersOf r;
+      };
+    }
+
+-- kinds 3 and 6, which a proposal holds as its progress certificate
+pub data Certificate : Type 0 where
+  -- view, name, signers
+  byBlock : ℕ → List ℕ → ℕ → Certificate
+  -- view, timeouts
+  byTimeouts : ℕ → List Timeout → Certificate
+
+unfoldable pub certificateOf : List ℕ → Certificate
+certificateOf r =
+    cond (eqb (kindOf r) 3) (byBlock (viewOf r) (nameOf r) (signersOf r))
+    (byTimeouts (viewOf r) (map timeoutOf (slots r)))
+
+-- a record: its sender first
+pub data Content : Type 0 where
+  -- kinds 1 and 2: view, name
+  vote : ℕ → ℕ → List ℕ → Content
+  commit : ℕ → ℕ → List ℕ → Content
+  -- kinds 3 and 6
+  certificate : ℕ → Certificate → Content
+  -- kind 5: the sender is in it
+  timeout : Timeout → Content
+  -- kind 7: view, name, parent, height, progress certificate, whose sender is the proposal's
+  proposal : ℕ → ℕ → List ℕ → List ℕ → ℕ → Certificate → Content
+  -- kind 8: name, parent, height
+  block : ℕ → List ℕ → List ℕ → ℕ → Content
+  -- kind 9: view, name, height
+  release : ℕ → ℕ → List ℕ → ℕ → Content
+
+unfoldable pub content : List ℕ → Content
+content r =
+    cond (eqb (kindOf r) 1) (vote (senderOf r) (viewOf r) (nameOf r))
+    (cond (eqb (kindOf r) 2) (commit (senderOf r) (viewOf r) (nameOf r))
+    (cond (eqb (kindOf r) 5) (timeout (timeoutOf r))
+    (cond (eqb (kindOf r) 7) (proposal (senderOf r) (viewOf r) (nameOf r) (parentOf r) (heightOf r) (certificateOf (progressOf r)))
+    (cond (eqb (kindOf r) 8) (block (senderOf r) (blockNameOf r) (blockParentOf r) (blockHeightOf r))
+    (cond (eqb (kindOf r) 9) (release (senderOf r) (viewOf r) (nameOf r) (releaseHeightOf r))
+    (certificate (senderOf r) (certificateOf r)))))))
+
+-- a slice that comes in: its content, or the place's refusal
+unfoldable pub decode : ℕ → List ℕ → Answer Content
+decode n r = judge (shapeRules n r) (content r)
+
+-- the progress certificate that begins at a place of a record: by kind 3 its place, view and signers, else its place and count
+unfoldable pub progressAt : List ℕ → ℕ → Progress
+progressAt r at =
+    cond (eqb (kindOf (drop at r)) 3)
+    (Block (record { place = at; view = record { 0 = viewOf (drop at r) }; signers = signersOf (drop at r) }))
+    (Timeouts (record { place = at; count = countOf (drop at r) }))
+
+-- what the enum's cases mean: the certificate that stands at that place
+unfoldable pub progressMeans : List ℕ → Progress → Certificate
+progressMeans r (Block b) = byBlock (b .view .0) (nameOf (drop (b .place) r)) (b .signers)
+progressMeans r (Timeouts t) = byTimeouts (viewOf (drop (t .place) r)) (map timeoutOf (slots (drop (t .place) r)))

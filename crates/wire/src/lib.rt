@@ -1,0 +1,71 @@
+// Records as bytes: their shape (places 3, 4 and 5), their fields, and writers.
+// Promises: the shape of any slice is 01's answer; a field is the number or the bytes that stand at 01's place; what a writer leaves is the
+// region with the record's bytes in it. Reading back is proved in proofs/ReadBack.antt. Rests on `codec` and `settings`.
+pub mod read;
+pub mod shape;
+pub mod write;
+
+use settings::Height;
+use settings::View;
+
+// A view and a name: a vote, a commit, or a timeout's high vote.
+pub struct Vote {
+    pub view: View,
+    pub name: [u8; 32],
+}
+
+// The certificate inside a timeout: kind 3, or 4 for weak.
+pub struct Carried {
+    pub kind: u16,
+    pub view: View,
+    pub name: [u8; 32],
+    pub signers: u64,
+}
+
+pub struct Timeout {
+    pub sender: u16,
+    pub view: View,
+    pub high: Vote,
+    pub carried: Carried,
+}
+
+// A block certificate inside a record: where it begins, its view and its signers. Its name stays in the record.
+pub struct BlockCertificate {
+    pub place: usize,
+    pub view: View,
+    pub signers: u64,
+}
+
+// A timeout certificate inside a record: where it begins and how many timeouts it has.
+pub struct TimeoutCertificate {
+    pub place: usize,
+    pub count: usize,
+}
+
+// The progress certificate of a proposal: a record of kind 3 or 6.
+pub enum Progress {
+    Block(BlockCertificate),
+    Timeouts(TimeoutCertificate),
+}
+
+// A proposal or a block: what it says of a name. A proposal's view and progress certificate stand beside it.
+pub struct Child {
+    pub name: [u8; 32],
+    pub parent: [u8; 32],
+    pub height: Height,
+}
+
+// A release: a record to the host.
+pub struct Release {
+    pub view: View,
+    pub name: [u8; 32],
+    pub height: Height,
+}
+
+// What the place "shape" says of a slice.
+pub enum Verdict {
+    Whole,
+    BadLength,
+    BadKind,
+    BadValue,
+}

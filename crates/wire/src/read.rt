@@ -1,0 +1,1 @@
+// The fields of a record that has its kind's length.

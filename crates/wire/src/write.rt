@@ -1,0 +1,1 @@
+// Writers: each puts one record into a region, at a place.
