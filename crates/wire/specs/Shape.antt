@@ -104,12 +104,15 @@ certificateValueBad n r =
 unfoldable pub progressValueBad : ℕ → ℕ → List ℕ → Bool
 progressValueBad n sender r = not (eqb (senderOf r) sender) || (leb n (senderOf r) || certificateValueBad n r)
 
+unfoldable pub proposalValueBad : ℕ → List ℕ → Bool
+proposalValueBad n r = sameBytes (nameOf r) zeroName || progressValueBad n (senderOf r) (progressOf r)
+
 unfoldable pub badValue : ℕ → List ℕ → Bool
 badValue n r =
     cond (eqb (kindOf r) 1) (sameBytes (nameOf r) zeroName)
     (cond (eqb (kindOf r) 2) (sameBytes (nameOf r) zeroName)
     (cond (eqb (kindOf r) 5) (timeoutValueBad n r)
-    (cond (eqb (kindOf r) 7) (sameBytes (nameOf r) zeroName || progressValueBad n (senderOf r) (progressOf r))
+    (cond (eqb (kindOf r) 7) (proposalValueBad n r)
     (cond (eqb (kindOf r) 8) (sameBytes (blockNameOf r) zeroName)
     (certificateValueBad n r)))))
 
