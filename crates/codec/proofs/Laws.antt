@@ -7,7 +7,7 @@ use native.Mathlib.Numerals.{add-one}
 use native.Mathlib.Nat.{add-zero, add-suc, suc-add, add-sub-cancel-left, add-sub-of-le, min-eq-left}
 use native.Mathlib.Omega.{arith}
 use lib.ListN.{length, take, drop, getD, set, length-set, length-take, length-drop, take-append-drop, replicate}
-use lib.Seq.{drop-cons, take-suc, getD-set-same, getD-set-other, drop-set-lt, drop-set-add, take-set-le, ext-getD, getD-drop, getD-take, set-comm, set-set, set-getD, length-take-le, take-all}
+use lib.Seq.{drop-cons, take-suc, getD-set-same, getD-set-other, drop-set-lt, drop-set-add, take-set-le, ext-getD, getD-drop, getD-take, set-comm, set-set, set-getD, length-take-le, take-all, drop-drop}
 use mathlib.Core.Bool.{Bool, true, false, _||_}
 use mathlib.Core.Logic.{⊎-elim, _⊎_, inl, inr}
 use borrow.Author.Tests.{leb-true}
@@ -127,6 +127,11 @@ patch-whole s v e =
 pub part-lent : (s : List ℕ) (at n : ℕ) → take (at + n - at) (drop at s) ≡ part s at n
 unfolding part
 part-lent s at n = rw (add-sub-cancel-left at n)
+
+-- a part of what is left behind a place
+pub part-drop : (s : List ℕ) (a b n : ℕ) → part (drop a s) b n ≡ part s (a + b) n
+unfolding part
+part-drop s a b n = rw drop-drop
 
 -- the rest of a list, `&s[at..]`
 pub part-rest : (s : List ℕ) (at : ℕ) → take (length s - at) (drop at s) ≡ drop at s

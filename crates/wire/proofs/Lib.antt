@@ -1,2 +1,4 @@
+pub mod Headers
 pub mod Slots
+pub mod Writes
 pub mod Frames

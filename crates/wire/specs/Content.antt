@@ -1,17 +1,36 @@
 -- What a record says (01: Records). `content` reads any bytes; it means something where the place "shape" accepts them. Assumes nothing.
-use Prim.Native.Nat.{ℕ}
+use Prim.Native.Nat.{ℕ, _+_}
 use mathlib.Core.Bool.{Bool, cond}
 use mathlib.Core.List.{List, [], _∷_, map}
 use lib.Dec.{eqb}
 use lib.ListN.{drop}
 use Rattle.settings.specs.Answer.{Answer, judge}
+use Rattle.codec.specs.Bytes.{part}
+use Rattle.codec.specs.Names.{nameLength}
+use Rattle.wire.specs.declared.Vote.{Vote}
+use Rattle.wire.specs.declared.Carried.{Carried}
 use Rattle.wire.specs.declared.Timeout.{Timeout}
+use Rattle.wire.specs.declared.Child.{Child}
+use Rattle.wire.specs.declared.Release.{Release}
 use Rattle.wire.specs.declared.Progress.{Progress}
 use Rattle.wire.specs.declared.Progress.the-variants.{Block, Timeouts}
-use Rattle.wire.specs.Fields.{kindOf, senderOf, viewOf, nameOf, signersOf, highViewOf, highNameOf, carriedKindOf, carriedViewOf, carriedNameOf, carriedSignersOf, countOf, parentOf, heightOf, progressOf, blockNameOf, blockParentOf, blockHeightOf, releaseHeightOf, slots}
+use Rattle.wire.specs.Fields.{numberAt, kindOf, senderOf, viewOf, nameOf, signersOf, highViewOf, highNameOf, carriedKindOf, carriedViewOf, carriedNameOf, carriedSignersOf, countOf, parentOf, heightOf, progressOf, blockNameOf, blockParentOf, blockHeightOf, releaseHeightOf, slots}
 use Rattle.wire.specs.Shape.{shapeRules}
 
+-- a view and the name behind it
+unfoldable pub voteAt : List ℕ → ℕ → Vote
+voteAt r at = record { view = record { 0 = numberAt r at 8 }; name = part r (at + 8) nameLength }
+
 -- kind 5
+unfoldable pub carriedOf : List ℕ → Carried
+carriedOf r =
+    record {
+      kind = carriedKindOf r;
+      view = record { 0 = carriedViewOf r };
+      name = carriedNameOf r;
+      signers = carriedSignersOf r;
+    }
+
 unfoldable pub timeoutOf : List ℕ → Timeout
 timeoutOf r =
     record {
@@ -25,6 +44,17 @@ timeoutOf r =
         signers = carriedSignersOf r;
       };
     }
+
+-- kinds 7 and 8: what they say of a name
+unfoldable pub proposedOf : List ℕ → Child
+proposedOf r = record { name = nameOf r; parent = parentOf r; height = record { 0 = heightOf r } }
+
+unfoldable pub blockOf : List ℕ → Child
+blockOf r = record { name = blockNameOf r; parent = blockParentOf r; height = record { 0 = blockHeightOf r } }
+
+-- kind 9
+unfoldable pub releaseOf : List ℕ → Release
+releaseOf r = record { view = record { 0 = viewOf r }; name = nameOf r; height = record { 0 = releaseHeightOf r } }
 
 -- kinds 3 and 6, which a proposal holds as its progress certificate
 pub data Certificate : Type 0 where

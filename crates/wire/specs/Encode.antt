@@ -67,3 +67,15 @@ encode (timeout t) = timeoutBytes t
 encode (proposal s v x y h k) = proposalBytes s v x y h (certificateBytes s k)
 encode (block s x y h) = blockBytes s x y h
 encode (release s v x h) = releaseBytes s v x h
+
+-- ---- what stands before a timeout's certificate, before a row of timeouts of that size, and before a progress certificate of that size
+unfoldable pub timeoutHead : Timeout → List ℕ
+timeoutHead t = headerBytes timeoutLength 5 (t .sender) ++ leBytes 8 (t .view .0) ++ leBytes 8 (t .high .view .0) ++ t .high .name
+
+unfoldable pub timeoutsHeadBytes : ℕ → ℕ → ℕ → List ℕ
+timeoutsHeadBytes sender view size =
+    headerBytes (timeoutsHead + size) 6 sender ++ leBytes 8 view ++ leBytes 2 (size / timeoutLength) ++ leBytes 6 0
+
+unfoldable pub proposalHeadBytes : ℕ → ℕ → List ℕ → List ℕ → ℕ → ℕ → List ℕ
+proposalHeadBytes sender view name parent height size =
+    headerBytes (proposalHead + size) 7 sender ++ leBytes 8 view ++ name ++ parent ++ leBytes 8 height

@@ -1,11 +1,11 @@
 // The place "shape": answers 3, 4 and 5, over inner records too, for any slice.
+use crate::Verdict;
 use codec::name::is_zero;
 use codec::name_at;
 use codec::num::le_at;
 use codec::num::u16_at;
 use codec::num::u32_at;
 use codec::num::u64_at;
-use crate::Verdict;
 ghost use mathlib.Core.Path.{_≡_};
 ghost use mathlib.Core.Bool.{false};
 ghost use Prim.Native.Nat.{_+_, _*_, _≤_};

@@ -1,0 +1,31 @@
+use mathlib.Core.Path.{_≡_, refl, sym, ap, _∙_}
+use Rattle.wire.specs.Content.{carriedOf}
+use borrow.Author.Needs.{needs}
+use native.Mathlib.Omega.{arith}
+use Rattle.wire.proofs.read.carried.Statement.{statement}
+use Rattle.wire.proofs.read.carried.Tie as tie
+use Rattle.wire.proofs.read.carried.Reads as reads
+use Rattle.wire.proofs.read.carried.Lts as lts
+use Rattle.codec.proofs.name_at.Reads as name-at-reads
+use Rattle.codec.proofs.num.u16_at.Reads as u16-at-reads
+use Rattle.codec.proofs.num.u64_at.Reads as u64-at-reads
+
+u16-at-requires : tie.Need-u16-at-requires
+u16-at-requires c κs = search needs
+
+u64-at-requires : tie.Need-u64-at-requires
+u64-at-requires c κs = search needs
+
+name-at-requires : tie.Need-name-at-requires
+name-at-requires c κs = search needs
+
+u64-at-requires-2 : tie.Need-u64-at-requires-2
+u64-at-requires-2 c κs = search needs
+
+returns : tie.Need-returns
+unfolding carriedOf
+returns c = rw (c .before .before .before .u16-at .ensures, c .before .before .u64-at .ensures, c .before .name-at .ensures, c .u64-at2 .ensures)
+
+pub carried-spec : {M : Type 1} → statement M
+carried-spec =
+    tie.close (tie.spec u16-at-requires u64-at-requires name-at-requires u64-at-requires-2 returns)

@@ -1,0 +1,68 @@
+use mathlib.Core.Path.{_≡_, refl, sym, ap, _∙_}
+use mathlib.Core.List.{append-assoc}
+use Rattle.codec.specs.Bytes.{leBytes}
+use Rattle.codec.proofs.Le.{length-leBytes}
+use Rattle.wire.specs.Encode.{headerBytes, blockBytes}
+use Rattle.wire.proofs.Writes.{first, next, whole}
+use Rattle.wire.proofs.Headers.{length-header}
+use borrow.Author.Needs.{needs}
+use native.Mathlib.Omega.{arith}
+use Rattle.wire.proofs.write.put_block.Statement.{statement}
+use Rattle.wire.proofs.write.put_block.Tie as tie
+use Rattle.wire.proofs.write.put_block.Reads as reads
+use Rattle.wire.proofs.write.put_block.Lts as lts
+use Rattle.codec.proofs.num.put_u64.Reads as put-u64-reads
+use Rattle.codec.proofs.put_name.Reads as put-name-reads
+use Rattle.wire.proofs.write.put_header.Reads as put-header-reads
+
+put-header-requires : tie.Need-put-header-requires
+put-header-requires c κs = search needs
+
+add-put-name : tie.Need-add-put-name
+add-put-name c = search needs
+
+put-name-requires : tie.Need-put-name-requires
+put-name-requires c κs = search needs
+
+add-put-name-2 : tie.Need-add-put-name-2
+add-put-name-2 c = search needs
+
+put-name-requires-2 : tie.Need-put-name-requires-2
+put-name-requires-2 c κs = search needs
+
+add-put-u64 : tie.Need-add-put-u64
+add-put-u64 c = search needs
+
+put-u64-requires : tie.Need-put-u64-requires
+put-u64-requires c κs = search needs
+
+same-length : tie.Need-same-length
+same-length c = search needs
+
+returns : tie.Need-returns
+unfolding blockBytes
+returns c =
+    let a = c .before .before .before .before .before .before .before .before .before .before .before .before .before .before .before .before .before .before .before .args in
+    whole (blockBytes (a .sender) (a .child .name) (a .child .parent) (a .child .height .0))
+    (next (leBytes 8 (a .child .height .0)) 8
+    (next (a .child .parent) 32
+    (next (a .child .name) 32
+    (first (a .out .now) (a .at) (headerBytes 80 8 (a .sender)) (c .before .before .before .before .before .before .before .before .before .before .before .before .before .before .put-header .ensures) (length-header 80 8 (a .sender)))
+    (c .before .before .before .before .before .before .before .before .before .before .put-name .ensures) (search needs))
+    (c .before .before .before .before .before .before .put-name2 .ensures) (search needs))
+    (c .before .before .put-u64 .ensures) (length-leBytes 8 (a .child .height .0)))
+    (simp append-assoc)
+
+pub put-block-spec : {M : Type 1} → statement M
+put-block-spec =
+    tie.close
+    (tie.spec
+    put-header-requires
+    add-put-name
+    put-name-requires
+    add-put-name-2
+    put-name-requires-2
+    add-put-u64
+    put-u64-requires
+    same-length
+    returns)
