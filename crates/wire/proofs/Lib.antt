@@ -1,4 +1,2 @@
 pub mod Headers
-pub mod Slots
 pub mod Writes
-pub mod Frames

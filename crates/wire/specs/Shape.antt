@@ -5,10 +5,8 @@ use mathlib.Core.Bool.{Bool, true, false, not, cond, _||_, Bool·beq}
 use mathlib.Core.List.{List, [], _∷_}
 use lib.Dec.{eqb, ltb, leb}
 use lib.ListN.{length, drop}
-use Rattle.settings.specs.Answer.{Answer, accepts, refuses, Rule, _⇒_, judge}
+use Rattle.settings.specs.Answer.{Answer, Rule, _⇒_, judge}
 use Rattle.codec.specs.Names.{sameBytes, zeroName}
-use Rattle.wire.specs.declared.Verdict.{Verdict}
-use Rattle.wire.specs.declared.Verdict.the-variants.{Whole, BadLength, BadKind, BadValue}
 use Rattle.wire.specs.Fields.{headerLength, voteLength, blockCertificateLength, timeoutLength, timeoutsHead, blockLength, releaseLength, lengthOf, kindOf, senderOf, viewOf, nameOf, signersOf, highViewOf, highNameOf, carriedKindOf, carriedPadding, carriedSignersOf, countOf, countPadding, progressOf, blockNameOf, slots}
 
 -- some element passes the test
@@ -122,13 +120,6 @@ shapeRules n r = badLength r ⇒ 3 ∷ badKind r ⇒ 4 ∷ badValue n r ⇒ 5 �
 
 unfoldable pub shapeOf : ℕ → List ℕ → Answer (Unit {0})
 shapeOf n r = judge (shapeRules n r) tt
-
--- what the enum's cases mean
-unfoldable pub shapeMeans : Verdict → Answer (Unit {0})
-shapeMeans Whole = accepts tt
-shapeMeans BadLength = refuses 3
-shapeMeans BadKind = refuses 4
-shapeMeans BadValue = refuses 5
 
 -- ---- kind 9, which only the host reads: 3 and 4 as for the others, and nothing that 5 could ask
 unfoldable pub releaseShape : List ℕ → Answer (Unit {0})

@@ -1,8 +1,8 @@
-// Records as bytes: their shape (places 3, 4 and 5), their fields, and writers.
-// Promises: the shape of any slice is 01's answer; a field is the number or the bytes that stand at 01's place; what a writer leaves is the
-// region with the record's bytes in it. Reading back is proved in proofs/ReadBack.antt. Rests on `codec` and `settings`.
+// Records as bytes: the definitions of their shape, content and bytes; readers of fields; writers.
+// Promises: a field is the number or the bytes that stand at 01's place; what a writer leaves is the region with the record's bytes in it;
+// what is written reads back to the same content, and no other bytes read as it (proofs/ReadBack.antt). A `requires` asks only that the
+// record has its kind's length, or that the region has room. Rests on `codec` and `settings`.
 pub mod read;
-pub mod shape;
 pub mod write;
 
 use settings::Height;
@@ -60,12 +60,4 @@ pub struct Release {
     pub view: View,
     pub name: [u8; 32],
     pub height: Height,
-}
-
-// What the place "shape" says of a slice.
-pub enum Verdict {
-    Whole,
-    BadLength,
-    BadKind,
-    BadValue,
 }
