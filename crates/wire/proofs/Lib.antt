@@ -1,2 +1,10 @@
-pub mod Headers
+pub mod Lengths
 pub mod Writes
+pub mod Rows
+pub mod Tables
+pub mod Slots
+pub mod Contents
+pub mod Facts
+pub mod Certified
+pub mod Accepted
+pub mod ReadBack

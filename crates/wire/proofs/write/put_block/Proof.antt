@@ -4,7 +4,7 @@ use Rattle.codec.specs.Bytes.{leBytes}
 use Rattle.codec.proofs.Le.{length-leBytes}
 use Rattle.wire.specs.Encode.{headerBytes, blockBytes}
 use Rattle.wire.proofs.Writes.{first, next, whole}
-use Rattle.wire.proofs.Headers.{length-header}
+use Rattle.wire.proofs.Lengths.{length-header}
 use borrow.Author.Needs.{needs}
 use native.Mathlib.Omega.{arith}
 use Rattle.wire.proofs.write.put_block.Statement.{statement}

@@ -4,7 +4,7 @@ use Rattle.codec.specs.Bytes.{leBytes}
 use Rattle.codec.proofs.Le.{length-leBytes}
 use Rattle.wire.specs.Encode.{proposalHeadBytes, proposalBytes}
 use Rattle.wire.proofs.Writes.{first, next, whole}
-use Rattle.wire.proofs.Headers.{length-proposal-head}
+use Rattle.wire.proofs.Lengths.{length-proposal-head}
 use lib.ListN.{length}
 use borrow.Author.Needs.{needs}
 use native.Mathlib.Omega.{arith}

@@ -5,7 +5,7 @@ use Rattle.codec.specs.Bytes.{leBytes}
 use Rattle.codec.proofs.Le.{length-leBytes}
 use Rattle.wire.specs.Encode.{headerBytes, proposalHeadBytes}
 use Rattle.wire.proofs.Writes.{first, next, whole}
-use Rattle.wire.proofs.Headers.{length-header}
+use Rattle.wire.proofs.Lengths.{length-header}
 use Prim.Native.Nat.{_+_}
 use borrow.Author.Needs.{needs}
 use native.Mathlib.Omega.{arith}

@@ -5,7 +5,7 @@ use Rattle.codec.specs.Bytes.{leBytes}
 use Rattle.codec.proofs.Le.{length-leBytes}
 use Rattle.wire.specs.Encode.{timeoutHead, timeoutBytes}
 use Rattle.wire.proofs.Writes.{first, next, whole}
-use Rattle.wire.proofs.Headers.{length-timeout-head}
+use Rattle.wire.proofs.Lengths.{length-timeout-head}
 use borrow.Author.Needs.{needs}
 use native.Mathlib.Omega.{arith}
 use Rattle.wire.proofs.write.put_timeout.Statement.{statement}
