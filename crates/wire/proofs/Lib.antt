@@ -8,3 +8,5 @@ pub mod Facts
 pub mod Certified
 pub mod Accepted
 pub mod ReadBack
+pub mod Turns
+pub mod Frames

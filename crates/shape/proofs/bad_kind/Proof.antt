@@ -7,7 +7,7 @@ use borrow.Author.Tests.{ne-eqb}
 use Rattle.codec.proofs.Laws.{part-rest}
 use Rattle.wire.specs.Fields.{kindOf, progressOf}
 use Rattle.wire.specs.Shape.{badKind, certificateLength}
-use Rattle.shape.proofs.Frames.{whole-header, whole-timeout, whole-inner, whole-proposal, inner-length, whole-certificate}
+use Rattle.wire.proofs.Frames.{whole-header, whole-timeout, whole-inner, whole-proposal, inner-length, whole-certificate}
 use borrow.Author.Needs.{needs}
 use native.Mathlib.Omega.{arith}
 use Rattle.shape.proofs.bad_kind.Statement.{statement}

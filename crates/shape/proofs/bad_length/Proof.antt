@@ -1,6 +1,6 @@
 use mathlib.Core.Path.{_≡_, refl, sym, _∙_}
 use Rattle.wire.specs.Shape.{badLength}
-use Rattle.shape.proofs.Frames.{frame-header}
+use Rattle.wire.proofs.Frames.{frame-header}
 use borrow.Author.Needs.{needs}
 use native.Mathlib.Omega.{arith}
 use Rattle.shape.proofs.bad_length.Statement.{statement}

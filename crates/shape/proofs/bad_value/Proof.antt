@@ -1,7 +1,7 @@
 use mathlib.Core.Path.{_≡_, refl, sym, _∙_}
 use borrow.Author.Tests.{ne-eqb}
 use Rattle.wire.specs.Shape.{badValue}
-use Rattle.shape.proofs.Frames.{whole-header, whole-vote, whole-commit, whole-timeout, whole-block, whole-proposal, inner-length, whole-certificate, inner-kind, certificate-kind}
+use Rattle.wire.proofs.Frames.{whole-header, whole-vote, whole-commit, whole-timeout, whole-block, whole-proposal, inner-length, whole-certificate, inner-kind, certificate-kind}
 use borrow.Author.Needs.{needs}
 use native.Mathlib.Omega.{arith}
 use Rattle.shape.proofs.bad_value.Statement.{statement}

@@ -1,7 +1,7 @@
 use mathlib.Core.Path.{_≡_, refl, sym, _∙_}
 use borrow.Author.Tests.{ne-eqb}
 use Rattle.wire.specs.Shape.{certificateKindBad}
-use Rattle.shape.proofs.Frames.{certificate-timeouts}
+use Rattle.wire.proofs.Frames.{certificate-timeouts}
 use borrow.Author.Needs.{needs}
 use native.Mathlib.Omega.{arith}
 use Rattle.shape.proofs.certificate_kind_bad.Statement.{statement}

@@ -4,7 +4,7 @@ use lib.ListN.{length}
 use borrow.Author.Tests.{ne-eqb, eq-eqb}
 use Rattle.wire.specs.Fields.{countOf}
 use Rattle.wire.specs.Shape.{certificateValueBad}
-use Rattle.shape.proofs.Frames.{certificate-block, certificate-timeouts, certificate-other}
+use Rattle.wire.proofs.Frames.{certificate-block, certificate-timeouts, certificate-other}
 use borrow.Author.Needs.{needs}
 use native.Mathlib.Omega.{arith}
 use Rattle.shape.proofs.certificate_value_bad.Statement.{statement}

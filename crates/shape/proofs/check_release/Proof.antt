@@ -3,7 +3,7 @@ use borrow.Author.Tests.{ne-eqb, eq-eqb}
 use Rattle.settings.specs.Answer.{judge}
 use Rattle.wire.specs.Shape.{releaseShape}
 use Rattle.shape.specs.Verdict.{verdict}
-use Rattle.shape.proofs.Frames.{frame-header}
+use Rattle.wire.proofs.Frames.{frame-header}
 use borrow.Author.Needs.{needs}
 use native.Mathlib.Omega.{arith}
 use Rattle.shape.proofs.check_release.Statement.{statement}

@@ -1,7 +1,7 @@
-use lib.Pow.{shl-exact}
+use Rattle.codec.proofs.Words.{shifted}
 use native.Mathlib.Omega.{arith}
 use Prim.Native.Nat.{ℕ, _*_, _%_, _^_, _≤_, _<_}
-use native.Mathlib.Nat.{lt-of-lt-of-le, pow-le-pow-right, one-mul}
+use native.Mathlib.Nat.{lt-of-lt-of-le, pow-le-pow-right}
 use lib.Dec.{lit<}
 use borrow.Author.Tests.{lt-leb}
 use mathlib.Core.Path.{_≡_, refl, sym, _∙_}
@@ -15,10 +15,6 @@ use Rattle.shape.proofs.signer_beyond.Lts as lts
 -- no number of 64 bits reaches 2^n from n = 64 on
 below-wide : (n x : ℕ) → 64 ≤ n → x < 2 ^ 64 → x < 2 ^ n
 below-wide n x h b = lt-of-lt-of-le b (pow-le-pow-right (lit< tt) h)
-
--- a shift by less than the width loses nothing
-shifted : (n : ℕ) → n < 64 → (1 * 2 ^ n) % 2 ^ 64 ≡ 2 ^ n
-shifted n h = shl-exact 1 n 64 (lit< tt) (omega arith) ∙ one-mul (2 ^ n)
 
 returns : tie.Need-returns
 unfolding beyond

@@ -1,10 +1,11 @@
+use Rattle.wire.proofs.Turns.{slotsFrom}
 use mathlib.Core.Path.{_≡_, refl, sym, ap, _∙_}
 use Prim.Native.Nat.{_+_, _*_, _-_, _≤_}
 use lib.ListN.{length, drop}
 use native.Mathlib.Nat.{sub-zero}
 use Rattle.wire.specs.Fields.{cut}
 use Rattle.wire.specs.Shape.{any, slotKindBad}
-use Rattle.shape.proofs.Slots.{slotsFrom, any-here, any-later, any-none}
+use Rattle.shape.proofs.Slots.{any-here, any-later, any-none}
 use borrow.Author.Needs.{needs}
 use native.Mathlib.Omega.{arith}
 use Rattle.shape.proofs.slots_kind_bad.Statement.{statement}

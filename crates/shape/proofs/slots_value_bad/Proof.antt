@@ -1,3 +1,4 @@
+use Rattle.wire.proofs.Turns.{slotsFrom}
 use mathlib.Core.Path.{_≡_, refl, sym, ap, _∙_}
 use Prim.Native.Nat.{ℕ, _+_, _*_, _-_, _≤_}
 use native.Mathlib.Nat.{sub-zero}
@@ -5,7 +6,7 @@ use native.Mathlib.Numerals.{add-one}
 use lib.ListN.{length, drop}
 use Rattle.wire.specs.Fields.{cut}
 use Rattle.wire.specs.Shape.{slotsValueBad}
-use Rattle.shape.proofs.Slots.{slotsFrom, value-here, value-later, value-none}
+use Rattle.shape.proofs.Slots.{value-here, value-later, value-none}
 use borrow.Author.Needs.{needs}
 use native.Mathlib.Omega.{arith}
 use Rattle.shape.proofs.slots_value_bad.Statement.{statement}

@@ -1,0 +1,3 @@
+pub mod Signers
+pub mod Timeouts
+pub mod Built

@@ -1,0 +1,45 @@
+use mathlib.Core.Path.{_≡_, refl, sym, ap, subst, _∙_}
+use Rattle.certificate.proofs.Built.{built-none, built-few, built-made}
+use borrow.Author.Needs.{needs}
+use native.Mathlib.Omega.{arith}
+use Rattle.certificate.proofs.safe.built_by.Statement.{statement}
+use Rattle.certificate.proofs.safe.built_by.Tie as tie
+use Rattle.certificate.proofs.safe.built_by.Reads as reads
+use Rattle.certificate.proofs.safe.built_by.Lts as lts
+use Rattle.certificate.proofs.safe.better.Reads as better-reads
+use Rattle.certificate.proofs.safe.count_backing.Reads as count-backing-reads
+use Rattle.settings.proofs.Settings.weak_quorum.Reads as weak-quorum-reads
+use Rattle.wire.proofs.read.vote.Reads as vote-reads
+
+vote-requires : tie.Need-vote-requires
+vote-requires c κs = search needs
+
+returns : tie.Need-returns
+returns c = built-none _ _ _ _ _ (c .before .before .before .before .vote .ensures) (c .if1 .taken)
+
+count-backing-requires : tie.Need-count-backing-requires
+count-backing-requires c κs = search needs
+
+weak-quorum-requires : tie.Need-weak-quorum-requires
+weak-quorum-requires c κs = search needs
+
+returns-2 : tie.Need-returns-2
+returns-2 c = built-few _ _ _ _ _ (c .before .before .before .before .before .before .before .before .vote .ensures) _ (c .before .before .before .count-backing .ensures) (c .before .before .before .before .if1 .left) (omega (arith, c .if2 .taken, c .before .before .weak-quorum .ensures))
+
+better-requires : tie.Need-better-requires
+better-requires c κs = search needs
+
+returns-3 : tie.Need-returns-3
+returns-3 c = built-made _ _ _ _ _ (c .before .before .before .before .before .before .before .before .before .vote .ensures) _ (c .before .before .before .before .count-backing .ensures) (c .before .before .before .before .before .if1 .left) (omega (arith, c .before .if2 .left, c .before .before .before .weak-quorum .ensures)) (c .better .ensures)
+
+pub built-by-spec : {M : Type 1} → statement M
+built-by-spec =
+    tie.close
+    (tie.spec
+    vote-requires
+    returns
+    count-backing-requires
+    weak-quorum-requires
+    returns-2
+    better-requires
+    returns-3)

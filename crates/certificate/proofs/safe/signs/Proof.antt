@@ -1,0 +1,18 @@
+use mathlib.Core.Path.{_≡_, refl, sym, ap, _∙_}
+use Rattle.certificate.specs.Safe.{signs}
+use borrow.Author.Needs.{needs}
+use native.Mathlib.Omega.{arith}
+use Rattle.certificate.proofs.safe.signs.Statement.{statement}
+use Rattle.certificate.proofs.safe.signs.Tie as tie
+use Rattle.certificate.proofs.safe.signs.Reads as reads
+use Rattle.certificate.proofs.safe.signs.Lts as lts
+
+shr-result : tie.Need-shr-result
+shr-result c = search needs
+
+returns : tie.Need-returns
+unfolding signs
+returns c = refl
+
+pub signs-spec : {M : Type 1} → statement M
+signs-spec = tie.close (tie.spec shr-result returns)

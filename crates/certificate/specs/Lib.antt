@@ -1,0 +1,3 @@
+pub mod Rank
+pub mod Good
+pub mod Safe

@@ -1,0 +1,25 @@
+//! One replica of the voting core, written from the scope paper (01) alone: state as Rust values, calls that accept
+//! or refuse. 01's words in ours: box = replica, ring = cluster, liar = Byzantine replica, threshold = quorum.
+
+mod certificate;
+mod faults;
+mod judge;
+mod kept;
+mod replica;
+mod rules;
+mod settings;
+mod store;
+mod types;
+
+pub mod literal;
+pub mod run;
+pub mod wire;
+
+pub use certificate::{Certificate, CertificateKind, Timeout};
+pub use faults::Faults;
+pub use kept::{members, BallotRows, Ballots, EntryCertificate, KeptTimeouts, TimeoutRows, Window};
+pub use replica::{Counters, Memory, Replica};
+pub use settings::{Protocol, Quorums, Settings};
+pub use store::{Path, Place, Store};
+pub use types::{answer, Block, Height, Name, Refusal, Reply, View, Vote, GENESIS};
+pub use wire::RawTimeout;

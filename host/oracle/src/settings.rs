@@ -1,0 +1,125 @@
+//! Settings of a cluster and the quorums that follow from them.
+
+use crate::faults::Faults;
+use crate::types::View;
+
+/// Settings that opening takes. 01: "A ring has n = 3f + 2c + k + 1 boxes, numbered 0 to n−1, n at most 32."
+#[derive(Clone, Copy, Debug, PartialEq, Eq)]
+pub struct Settings {
+    f: u32,
+    c: u32,
+    k: u32,
+}
+
+impl Settings {
+    /// The largest cluster.
+    pub const MAX_N: usize = 32;
+
+    /// None where f, c, k break a rule of 01: n at most 32, "k ≤ 2f+c−4 for even c, k ≤ 2f+c−3 for odd c".
+    pub fn new(f: u64, c: u64, k: u64) -> Option<Settings> {
+        let most = Self::MAX_N as u64;
+        if f > most || c > most || k > most {
+            return None; // n would be over 32; keeps the sums below small
+        }
+        let slack = if c.is_multiple_of(2) { 4 } else { 3 };
+        let taken = 3 * f + 2 * c + k < most && k + slack <= 2 * f + c;
+        taken.then_some(Settings { f: f as u32, c: c as u32, k: k as u32 })
+    }
+
+    /// Byzantine replicas that the cluster bears.
+    pub const fn f(self) -> u32 {
+        self.f
+    }
+
+    /// Stopped replicas that it bears beside them.
+    pub const fn c(self) -> u32 {
+        self.c
+    }
+
+    pub const fn k(self) -> u32 {
+        self.k
+    }
+
+    pub const fn n(self) -> u32 {
+        3 * self.f + 2 * self.c + self.k + 1
+    }
+
+    /// 01: "p is (c+k)/2 rounded down."
+    pub const fn p(self) -> u32 {
+        (self.c + self.k) / 2
+    }
+
+    /// 01: "block certificate: (n+f+1)/2 rounded up"
+    pub const fn block_quorum(self) -> u32 {
+        (self.n() + self.f + 1).div_ceil(2)
+    }
+
+    /// 01: "weak certificate: f+p+1"
+    pub const fn weak_quorum(self) -> u32 {
+        self.f + self.p() + 1
+    }
+
+    /// 01: "timeout certificate: n−f−c"
+    pub const fn timeout_quorum(self) -> u32 {
+        self.n() - self.f - self.c
+    }
+
+    /// 01: "slow release: 2f+c+1 commits"
+    pub const fn slow_quorum(self) -> u32 {
+        2 * self.f + self.c + 1
+    }
+
+    /// 01: "fast release: n−p votes"
+    pub const fn fast_quorum(self) -> u32 {
+        self.n() - self.p()
+    }
+
+    /// 01: "The leader of view v ≥ 1 is box (v−1) mod n."
+    pub fn leader(self, view: View) -> u16 {
+        ((view.0 - 1) % u64::from(self.n())) as u16
+    }
+
+    /// The signer set of all replicas.
+    pub const fn everyone(self) -> u64 {
+        (1 << self.n()) - 1
+    }
+}
+
+/// The five quorums as a replica counts with them.
+#[derive(Clone, Copy, Debug, PartialEq, Eq)]
+pub struct Quorums {
+    pub block: u32,
+    pub weak: u32,
+    pub timeout: u32,
+    pub slow: u32,
+    pub fast: u32,
+}
+
+impl Quorums {
+    /// 01's quorums where no fault is set.
+    pub fn new(settings: Settings, faults: Faults) -> Quorums {
+        // With p from c+k+2 instead of c+k, p is one higher.
+        let p_over = u32::from(faults.p_from_c_k_2);
+        Quorums {
+            block: settings.block_quorum() - u32::from(faults.block_quorum_lower),
+            weak: settings.weak_quorum() + p_over - u32::from(faults.weak_quorum_lower),
+            timeout: settings.timeout_quorum() - u32::from(faults.timeout_quorum_lower),
+            slow: settings.slow_quorum() - u32::from(faults.slow_quorum_lower),
+            fast: settings.fast_quorum() - p_over - u32::from(faults.fast_quorum_lower),
+        }
+    }
+}
+
+/// By what a replica counts and ranks: settings, the errors it makes, and the quorums that come of both.
+#[derive(Clone, Copy, Debug, PartialEq, Eq)]
+pub struct Protocol {
+    pub settings: Settings,
+    pub faults: Faults,
+    pub quorums: Quorums,
+}
+
+impl Protocol {
+    pub fn new(settings: Settings, faults: Faults) -> Protocol {
+        Protocol { settings, faults, quorums: Quorums::new(settings, faults) }
+    }
+}

@@ -1,0 +1,75 @@
+//! A cluster in which every record arrives at once: it goes from view to view and releases.
+
+use oracle::{wire, Refusal, Replica, View};
+
+struct Cluster {
+    replicas: Vec<Replica>,
+    releases: Vec<Vec<[u8; 32]>>,
+}
+
+impl Cluster {
+    fn open(f: u64, c: u64, k: u64) -> Cluster {
+        let n = 3 * f + 2 * c + k + 1;
+        let replicas: Vec<_> = (0..n).map(|own| Replica::open(f, c, k, n, own).unwrap()).collect();
+        Cluster { releases: vec![Vec::new(); replicas.len()], replicas }
+    }
+
+    /// Delivers what a replica wrote, and what comes of it, until all is quiet.
+    fn deliver(&mut self, from: usize, output: &[u8]) {
+        let mut queue: std::collections::VecDeque<(usize, Vec<u8>)> = Default::default();
+        queue.extend(wire::records(output).map(|record| (from, record.to_vec())));
+        while let Some((from, record)) = queue.pop_front() {
+            if wire::kind_of(&record) == wire::kind::RELEASE {
+                self.releases[from].push(wire::name_at(&record, 16));
+                continue;
+            }
+            for to in (0..self.replicas.len()).filter(|&to| to != from) {
+                let mut out = Vec::new();
+                if self.replicas[to].record(&record, &mut out).is_ok() {
+                    queue.extend(wire::records(&out).map(|record| (to, record.to_vec())));
+                }
+            }
+        }
+    }
+
+    fn propose(&mut self, leader: usize, name: [u8; 32]) -> Result<usize, Refusal> {
+        let mut out = Vec::new();
+        let reply = self.replicas[leader].propose(name, &mut out);
+        self.deliver(leader, &out);
+        reply
+    }
+
+    fn time_out(&mut self, who: usize, view: u64) {
+        let mut out = Vec::new();
+        self.replicas[who].timer(View(view), &mut out).unwrap();
+        self.deliver(who, &out);
+    }
+}
+
+#[test]
+fn every_view_releases_a_block() {
+    for (f, c, k) in [(1, 1, 0), (2, 2, 2), (0, 4, 0), (7, 5, 0)] {
+        let mut cluster = Cluster::open(f, c, k);
+        let n = cluster.replicas.len();
+        for view in 1..40 {
+            cluster.propose((view - 1) % n, [view as u8; 32]).unwrap();
+        }
+        let expected: Vec<_> = (1..40).map(|view| [view as u8; 32]).collect();
+        assert!(cluster.releases.iter().all(|row| *row == expected), "{f} {c} {k}");
+        assert!(cluster.replicas.iter().all(|replica| replica.counters.view == View(40)));
+    }
+}
+
+#[test]
+fn timeouts_lead_to_the_next_view_and_the_chain_goes_on() {
+    let mut cluster = Cluster::open(1, 1, 0);
+    cluster.propose(0, [1; 32]).unwrap();
+    for who in 0..4 {
+        if cluster.replicas[who].counters.view == View(2) && cluster.replicas[who].counters.timed < View(2) {
+            cluster.time_out(who, 2);
+        }
+    }
+    assert!(cluster.replicas.iter().all(|replica| replica.counters.view == View(3)));
+    cluster.propose(2, [3; 32]).unwrap();
+    assert!(cluster.releases.iter().all(|row| *row == [[1; 32], [3; 32]]));
+}

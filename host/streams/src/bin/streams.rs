@@ -1,0 +1,75 @@
+//! Writes input files of the run program, or prints what streams cover.
+//!
+//!     streams input SEED CALLS [F C K OWN] > FILE     one input
+//!     streams files DIR FIRST_SEED COUNT CALLS         many inputs, one file a seed
+//!     streams coverage FIRST_SEED COUNT CALLS          plays streams and prints the table
+
+use std::io::{self, Write};
+use std::path::Path;
+use std::process::ExitCode;
+
+use streams::{input, play, Coverage, Opening, UNREACHABLE};
+
+const USAGE: &str = "streams input SEED CALLS [F C K OWN] > FILE
+streams files DIR FIRST_SEED COUNT CALLS
+streams coverage FIRST_SEED COUNT CALLS";
+
+fn main() -> ExitCode {
+    let arguments: Vec<String> = std::env::args().skip(1).collect();
+    let arguments: Vec<&str> = arguments.iter().map(String::as_str).collect();
+    match perform(&arguments) {
+        Some(Ok(())) => ExitCode::SUCCESS,
+        Some(Err(error)) => {
+            eprintln!("streams: {error}");
+            ExitCode::FAILURE
+        }
+        None => {
+            eprintln!("{USAGE}");
+            ExitCode::from(2)
+        }
+    }
+}
+
+/// None if the arguments aren't understood.
+fn perform(arguments: &[&str]) -> Option<io::Result<()>> {
+    match arguments {
+        ["input", numbers @ ..] => {
+            let numbers = numbers.iter().map(|text| text.parse().ok()).collect::<Option<Vec<u64>>>()?;
+            let (seed, calls, opening) = match numbers[..] {
+                [seed, calls] => (seed, calls, Opening::seeded(seed)),
+                [seed, calls, f, c, k, own] => (seed, calls, Opening::new(f, c, k, own)?),
+                _ => return None,
+            };
+            Some(io::stdout().write_all(&input(opening, seed, calls as usize)))
+        }
+        ["files", directory, first, count, calls] => {
+            Some(write_files(Path::new(directory), first.parse().ok()?, count.parse().ok()?, calls.parse().ok()?))
+        }
+        ["coverage", first, count, calls] => {
+            print_coverage(first.parse().ok()?, count.parse().ok()?, calls.parse().ok()?);
+            Some(Ok(()))
+        }
+        _ => None,
+    }
+}
+
+fn write_files(directory: &Path, first: u64, count: u64, calls: usize) -> io::Result<()> {
+    std::fs::create_dir_all(directory)?;
+    for seed in first..first + count {
+        let bytes = input(Opening::seeded(seed), seed, calls);
+        std::fs::write(directory.join(format!("{seed}.input")), bytes)?;
+    }
+    Ok(())
+}
+
+fn print_coverage(first: u64, count: u64, calls: usize) {
+    let mut coverage = Coverage::default();
+    for seed in first..first + count {
+        play(Opening::seeded(seed), seed, calls, &mut coverage);
+    }
+    println!("{coverage}");
+    println!("not reached: {:?} {:?}", coverage.missing(), coverage.missing_paths());
+    for (call, answer, reason) in UNREACHABLE {
+        println!("unreachable: {call} {answer}: {reason}");
+    }
+}

@@ -1,0 +1,240 @@
+//! Which answers and paths a set of streams came upon.
+
+use std::fmt;
+
+use oracle::{answer, wire, Replica, Reply};
+
+use crate::call::Call;
+
+/// The rows of the table: kinds of records that a replica knows, its other calls, and all other slices.
+#[derive(Clone, Copy, Debug, PartialEq, Eq)]
+pub enum Kind {
+    Vote,
+    Commit,
+    BlockCertificate,
+    Timeout,
+    TimeoutCertificate,
+    Proposal,
+    Block,
+    Timer,
+    Propose,
+    /// Any other kind, and slices too short to have one.
+    Foreign,
+}
+
+impl Kind {
+    pub const ALL: [Kind; 10] = [
+        Kind::Vote,
+        Kind::Commit,
+        Kind::BlockCertificate,
+        Kind::Timeout,
+        Kind::TimeoutCertificate,
+        Kind::Proposal,
+        Kind::Block,
+        Kind::Timer,
+        Kind::Propose,
+        Kind::Foreign,
+    ];
+
+    pub fn of(call: &Call) -> Kind {
+        match call {
+            Call::Timer(_) => Kind::Timer,
+            Call::Propose(_) => Kind::Propose,
+            Call::Record(bytes) if bytes.len() < wire::HEADER => Kind::Foreign,
+            Call::Record(bytes) => match wire::kind_of(bytes) {
+                wire::kind::VOTE => Kind::Vote,
+                wire::kind::COMMIT => Kind::Commit,
+                wire::kind::BLOCK_CERTIFICATE => Kind::BlockCertificate,
+                wire::kind::TIMEOUT => Kind::Timeout,
+                wire::kind::TIMEOUT_CERTIFICATE => Kind::TimeoutCertificate,
+                wire::kind::PROPOSAL => Kind::Proposal,
+                wire::kind::BLOCK => Kind::Block,
+                _ => Kind::Foreign,
+            },
+        }
+    }
+}
+
+/// The answers that calls from an opened replica can get, by 01's table.
+pub const REACHABLE: [(Kind, &[u16]); 10] = [
+    (Kind::Vote, &[0, 3, 5, 6, 7, 8, 10, 11]),
+    (Kind::Commit, &[0, 3, 5, 6, 7, 8, 10, 11]),
+    (Kind::BlockCertificate, &[0, 3, 5, 6, 8, 9, 10]),
+    (Kind::Timeout, &[0, 3, 4, 5, 6, 7, 8, 9, 10, 11]),
+    (Kind::TimeoutCertificate, &[0, 3, 4, 5, 6, 7, 8, 9]),
+    (Kind::Proposal, &[0, 3, 4, 5, 6, 7, 8, 9, 10, 11, 12, 13, 14]),
+    (Kind::Block, &[0, 3, 5, 6, 10, 11, 12, 13, 14]),
+    (Kind::Timer, &[0, 7, 8, 10]),
+    (Kind::Propose, &[0, 5, 11, 12, 14, 15]),
+    (Kind::Foreign, &[3, 4]),
+];
+
+/// Pairs that stand in 01's table and yet don't come up, with the reason.
+pub const UNREACHABLE: [(&str, u16, &str); 3] = [
+    ("opening", 1, "a stream begins after an accepted opening; tests of the oracle have it"),
+    ("all calls", 2, "never given in a state that opening and calls left; tests of the oracle set such states"),
+    ("propose", 13, "a held block of height 2^62 takes 2^62 blocks; tests of the oracle set such a state"),
+];
+
+/// What accepted calls did, read off their output.
+#[derive(Clone, Copy, Debug, PartialEq, Eq)]
+pub enum Path {
+    /// A: a timeout sent by a call that isn't the timer.
+    Echo,
+    /// B: a timeout certificate formed.
+    TimeoutCertificateFormed,
+    /// C: a block certificate formed and sent.
+    BlockCertificateFormed,
+    /// C: the lock moved and nothing was sent.
+    LockMoved,
+    /// D by n−p votes.
+    FastRelease,
+    /// D by 2f+c+1 commits.
+    SlowRelease,
+    /// Eight releases or more by one call.
+    LongRelease,
+    /// The best weak certificate moved.
+    WeakAdopted,
+    /// The view is one of the last eight.
+    LastViews,
+    /// The store is full.
+    FullStore,
+}
+
+impl Path {
+    pub const ALL: [Path; 10] = [
+        Path::Echo,
+        Path::TimeoutCertificateFormed,
+        Path::BlockCertificateFormed,
+        Path::LockMoved,
+        Path::FastRelease,
+        Path::SlowRelease,
+        Path::LongRelease,
+        Path::WeakAdopted,
+        Path::LastViews,
+        Path::FullStore,
+    ];
+}
+
+/// Counts of (kind, answer) pairs and of paths.
+#[derive(Clone, Debug, Default)]
+pub struct Coverage {
+    answers: [[u64; 16]; 10],
+    paths: [u64; 10],
+}
+
+impl Coverage {
+    /// Counts one call: the replica before and after it, and what it wrote.
+    pub fn count(&mut self, call: &Call, reply: Reply, before: &oracle::Counters, after: &Replica, output: &[u8]) {
+        let kind = Kind::of(call);
+        self.answers[kind as usize][usize::from(answer(reply))] += 1;
+        if reply.is_ok() {
+            self.count_certificates(kind, before, after, output);
+            self.count_releases(after, output);
+            self.count_state(before, after);
+        }
+    }
+
+    pub fn of(&self, kind: Kind, answer: u16) -> u64 {
+        self.answers[kind as usize][usize::from(answer)]
+    }
+
+    pub fn of_path(&self, path: Path) -> u64 {
+        self.paths[path as usize]
+    }
+
+    pub fn calls(&self) -> u64 {
+        self.answers.iter().flatten().sum()
+    }
+
+    pub fn accepted(&self) -> u64 {
+        self.answers.iter().map(|row| row[0]).sum()
+    }
+
+    pub fn accepted_percent(&self) -> u64 {
+        100 * self.accepted() / self.calls().max(1)
+    }
+
+    /// Reachable pairs that didn't come up.
+    pub fn missing(&self) -> Vec<(Kind, u16)> {
+        let pairs = REACHABLE.iter().flat_map(|(kind, answers)| answers.iter().map(move |answer| (*kind, *answer)));
+        pairs.filter(|(kind, answer)| self.of(*kind, *answer) == 0).collect()
+    }
+
+    /// Pairs that came up although they aren't listed as reachable.
+    pub fn unlisted(&self) -> Vec<(Kind, u16)> {
+        let listed = |kind: Kind, answer: u16| REACHABLE.iter().any(|(k, list)| *k == kind && list.contains(&answer));
+        let pairs = Kind::ALL.iter().flat_map(|kind| (0..16).map(move |answer| (*kind, answer)));
+        pairs.filter(|(kind, answer)| self.of(*kind, *answer) > 0 && !listed(*kind, *answer)).collect()
+    }
+
+    /// Paths that no call took.
+    pub fn missing_paths(&self) -> Vec<Path> {
+        Path::ALL.into_iter().filter(|path| self.of_path(*path) == 0).collect()
+    }
+
+    fn took(&mut self, path: Path) {
+        self.paths[path as usize] += 1;
+    }
+
+    fn count_certificates(&mut self, kind: Kind, before: &oracle::Counters, after: &Replica, output: &[u8]) {
+        let wrote = |kind: u16| wire::records(output).any(|record| wire::kind_of(record) == kind);
+        if kind != Kind::Timer && wrote(wire::kind::TIMEOUT) {
+            self.took(Path::Echo);
+        }
+        if matches!(kind, Kind::Timeout | Kind::Timer) && wrote(wire::kind::TIMEOUT_CERTIFICATE) {
+            self.took(Path::TimeoutCertificateFormed);
+        }
+        if kind == Kind::Vote && wrote(wire::kind::BLOCK_CERTIFICATE) {
+            self.took(Path::BlockCertificateFormed);
+        } else if kind == Kind::Vote && before.lock != after.counters.lock {
+            self.took(Path::LockMoved);
+        }
+    }
+
+    fn count_releases(&mut self, after: &Replica, output: &[u8]) {
+        let releases: Vec<_> =
+            wire::records(output).filter(|record| wire::kind_of(record) == wire::kind::RELEASE).collect();
+        let Some(last) = releases.last() else { return };
+        let view = oracle::View(wire::u64_at(last, 8));
+        let votes = after.memory.votes.row(view).backers(after.settings().everyone(), &wire::name_at(last, 16));
+        if votes.count_ones() >= after.protocol().quorums.fast {
+            self.took(Path::FastRelease);
+        } else {
+            self.took(Path::SlowRelease);
+        }
+        if releases.len() >= 8 {
+            self.took(Path::LongRelease);
+        }
+    }
+
+    fn count_state(&mut self, before: &oracle::Counters, after: &Replica) {
+        if before.best_weak != after.counters.best_weak {
+            self.took(Path::WeakAdopted);
+        }
+        if after.counters.view.0 > oracle::View::MAX.0 - 8 {
+            self.took(Path::LastViews);
+        }
+        if after.memory.store.is_full() {
+            self.took(Path::FullStore);
+        }
+    }
+}
+
+/// A table of calls by kind and answer, then the paths.
+impl fmt::Display for Coverage {
+    fn fmt(&self, f: &mut fmt::Formatter<'_>) -> fmt::Result {
+        write!(f, "{:<20}", "answer")?;
+        (0..16).filter(|answer| *answer != 1).try_for_each(|answer| write!(f, "{answer:>8}"))?;
+        writeln!(f)?;
+        for kind in Kind::ALL {
+            write!(f, "{:<20}", format!("{kind:?}"))?;
+            (0..16).filter(|answer| *answer != 1).try_for_each(|answer| write!(f, "{:>8}", self.of(kind, answer)))?;
+            writeln!(f)?;
+        }
+        for path in Path::ALL {
+            writeln!(f, "{:<28}{:>10}", format!("{path:?}"), self.of_path(path))?;
+        }
+        write!(f, "{} calls, {} % accepted", self.calls(), self.accepted_percent())
+    }
+}

@@ -1,0 +1,18 @@
+//! Seeded inputs for one replica. A stream looks at the replica's state, so that many calls are accepted and every
+//! refusal, rule and limit comes up.
+
+mod call;
+mod coverage;
+mod garbage;
+mod good;
+mod input;
+mod random;
+mod spoil;
+mod stream;
+
+pub use call::Call;
+pub use coverage::{Coverage, Kind, Path, REACHABLE, UNREACHABLE};
+pub use garbage::garbage;
+pub use input::{input, play, Played};
+pub use random::Random;
+pub use stream::{Opening, Stream, SETTINGS};

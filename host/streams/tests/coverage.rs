@@ -1,0 +1,55 @@
+//! Streams reach every answer and every path, and one seed always gives the same.
+
+use streams::{input, play, Coverage, Opening, Stream};
+
+#[test]
+fn every_reachable_answer_and_path_comes_up() {
+    let mut coverage = Coverage::default();
+    for seed in 0..100 {
+        play(Opening::seeded(seed), seed, 1000, &mut coverage);
+    }
+    println!("{coverage}");
+    assert_eq!(coverage.missing(), [], "reachable pairs (kind, answer)");
+    assert_eq!(coverage.unlisted(), [], "pairs that 01's table doesn't have");
+    assert_eq!(coverage.missing_paths(), []);
+    assert!(coverage.accepted_percent() >= 30, "{} % accepted", coverage.accepted_percent());
+}
+
+#[test]
+fn refused_calls_change_nothing() {
+    for seed in 1000..1010 {
+        let mut replica = Opening::seeded(seed).open();
+        let mut stream = Stream::new(seed);
+        let mut out = Vec::new();
+        for _ in 0..500 {
+            let call = stream.next(&replica);
+            let before = replica.clone();
+            out.clear();
+            match call.make(&mut replica, &mut out) {
+                Ok(written) => assert_eq!(written, out.len()),
+                Err(_) => assert!(replica == before && out.is_empty()),
+            }
+            assert!(out.len() <= 26_624, "the bound on a call's output");
+        }
+    }
+}
+
+#[test]
+fn a_seed_gives_the_same_stream() {
+    let opening = Opening::seeded(7);
+    let one = play(opening, 7, 300, &mut Coverage::default());
+    let two = play(opening, 7, 300, &mut Coverage::default());
+    assert!(one.calls == two.calls && one.replica == two.replica);
+    assert_ne!(one.calls, play(opening, 8, 300, &mut Coverage::default()).calls);
+}
+
+#[test]
+fn inputs_run_to_their_end() {
+    for seed in 0..20 {
+        let calls = 200;
+        let bytes = input(Opening::seeded(seed), seed, calls);
+        let mut lines = Vec::new();
+        oracle::run::run(&bytes, Default::default(), &mut lines).unwrap();
+        assert_eq!(String::from_utf8(lines).unwrap().lines().count(), calls + 1, "seed {seed}");
+    }
+}
