@@ -7,7 +7,7 @@ use native.Mathlib.Omega.{arith}
 use borrow.Author.Tests.{lt-ltb, le-leb, lt-leb}
 use lib.ListN.{drop}
 use Rattle.settings.specs.declared.Settings.{Settings}
-use Rattle.settings.specs.Quorum.{weakQuorum}
+use Rattle.settings.specs.Quorum.{replicas, weakQuorum}
 use Rattle.wire.specs.declared.Vote.{Vote}
 use Rattle.wire.specs.declared.Timeout.{Timeout}
 use Rattle.wire.specs.Fields.{numberAt, highNameOf, cut}
@@ -23,19 +23,19 @@ module _ (s : Settings) (l : List Timeout) (r : List ℕ) (k : Certificate) (hig
   unfolding builtBy timeoutOf voteAt
   built-none h = let w : numberAt r 16 8 ≡ 0 = rw e at h in rw w
 
-  module _ (b : Backing) (p : b ≡ backing (high .view .0) (high .name) l) (h : high .view .0 ≡ 0 → ⊥) where
+  module _ (b : Backing) (p : b ≡ backing (replicas s) (high .view .0) (high .name) l) (h : high .view .0 ≡ 0 → ⊥) where
     pub built-few : b .count < weakQuorum s → k ≡ builtBy s l (timeoutOf r) k
     unfolding builtBy timeoutOf voteAt
     built-few q =
         let w : 0 < numberAt r 16 8 = rw e at (let g : 0 < high .view .0 = omega arith in g) in
-        let f : b ≡ backing (numberAt r 16 8) (highNameOf r) l = rw e at p in
+        let f : b ≡ backing (replicas s) (numberAt r 16 8) (highNameOf r) l = rw e at p in
         rw (lt-ltb 0 (numberAt r 16 8) w, ← f, lt-leb (weakQuorum s) (b .count) q)
 
     pub built-made : {m : Certificate} → weakQuorum s ≤ b .count → m ≡ better (weakCertificate (high .view .0) (high .name) (b .signers)) k → m ≡ builtBy s l (timeoutOf r) k
     unfolding builtBy timeoutOf voteAt
     built-made {m} q d =
         let w : 0 < numberAt r 16 8 = rw e at (let g : 0 < high .view .0 = omega arith in g) in
-        let f : b ≡ backing (numberAt r 16 8) (highNameOf r) l = rw e at p in
+        let f : b ≡ backing (replicas s) (numberAt r 16 8) (highNameOf r) l = rw e at p in
         let g : m ≡ better (weakCertificate (numberAt r 16 8) (highNameOf r) (b .signers)) k = rw e at d in
         rw (lt-ltb 0 (numberAt r 16 8) w, ← f, le-leb (weakQuorum s) (b .count) q) g
 

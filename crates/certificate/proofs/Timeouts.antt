@@ -57,10 +57,10 @@ module _ {B : Type 0} (f : Timeout → B → B) (b : B) (r : List ℕ) (k i : �
   each-end h = rw (timeouts-end r k i h)
 
 -- one timeout more is at most one more
-pub backed-count : {i : ℕ} {b′ : Backing} (v : ℕ) (x : List ℕ) (t : Timeout) (b : Backing) → b′ ≡ backedBy v x t b → b .count ≤ i → b′ .count ≤ i + 1
+pub backed-count : {i : ℕ} {b′ : Backing} (n v : ℕ) (x : List ℕ) (t : Timeout) (b : Backing) → b′ ≡ backedBy n v x t b → b .count ≤ i → b′ .count ≤ i + 1
 unfolding backedBy
-backed-count {i} v x t b e h = rw e (go (gives v x t))
+backed-count {i} n v x t b e h = rw e (go (gives v x t))
   where
-    go : (p : Bool) → (cond p (record { count = b .count + 1; signers = joins (t .sender) (b .signers) }) b) .count ≤ i + 1
+    go : (p : Bool) → (cond p (record { count = b .count + 1; signers = joins n (t .sender) (b .signers) }) b) .count ≤ i + 1
     go true = omega arith
     go false = omega arith

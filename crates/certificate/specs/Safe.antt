@@ -4,7 +4,7 @@ use mathlib.Core.Bool.{Bool, true, false, cond, not, _&&_}
 use mathlib.Core.List.{List, [], _∷_}
 use lib.Dec.{eqb, ltb, leb}
 use Rattle.settings.specs.declared.Settings.{Settings}
-use Rattle.settings.specs.Quorum.{largest, weakQuorum}
+use Rattle.settings.specs.Quorum.{replicas, weakQuorum}
 use Rattle.codec.specs.Names.{sameBytes}
 use Rattle.wire.specs.declared.Timeout.{Timeout}
 use Rattle.wire.specs.Content.{byBlock, byTimeouts}
@@ -26,23 +26,23 @@ better l k = cond (outranks l k) l k
 unfoldable pub signs : ℕ → ℕ → Bool
 signs signers i = eqb (signers / 2 ^ i % 2) 1
 
--- the set with replica i in it, if it is one that a cluster can have
-unfoldable pub joins : ℕ → ℕ → ℕ
-joins i signers = cond (ltb i largest && not (signs signers i)) (signers + 2 ^ i) signers
+-- the set with replica i in it, if there is one of that number among n
+unfoldable pub joins : ℕ → ℕ → ℕ → ℕ
+joins n i signers = cond (ltb i n && not (signs signers i)) (signers + 2 ^ i) signers
 
 -- a timeout gives x in view v as high vote
 unfoldable pub gives : ℕ → List ℕ → Timeout → Bool
 gives v x t = eqb (t .high .view .0) v && sameBytes (t .high .name) x
 
 -- how many timeouts give that high vote, and who sent them: one timeout more, and a list of them
-unfoldable pub backedBy : ℕ → List ℕ → Timeout → Backing → Backing
-backedBy v x t b = cond (gives v x t) (record { count = b .count + 1; signers = joins (t .sender) (b .signers) }) b
+unfoldable pub backedBy : ℕ → ℕ → List ℕ → Timeout → Backing → Backing
+backedBy n v x t b = cond (gives v x t) (record { count = b .count + 1; signers = joins n (t .sender) (b .signers) }) b
 
 abbrev pub noBacking : Backing
 noBacking = record { count = 0; signers = 0 }
 
-abbrev pub backing : ℕ → List ℕ → List Timeout → Backing
-backing v x l = each (backedBy v x) noBacking l
+abbrev pub backing : ℕ → ℕ → List ℕ → List Timeout → Backing
+backing n v x l = each (backedBy n v x) noBacking l
 
 -- "a weak certificate for each view and name that at least f+p+1 of its timeouts give as high vote (signers: those senders)":
 -- k, or the one that the high vote of t builds among the timeouts l, if it is built and outranks k
@@ -50,7 +50,7 @@ unfoldable pub builtBy : Settings → List Timeout → Timeout → Certificate �
 builtBy s l t k =
     let v = t .high .view .0 in
     let x = t .high .name in
-    let b = backing v x l in
+    let b = backing (replicas s) v x l in
     cond (ltb 0 v && leb (weakQuorum s) (b .count)) (better (weakCertificate v x (b .signers)) k) k
 
 -- first those carried in the timeouts, then those built, each in the order of the timeouts

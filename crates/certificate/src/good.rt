@@ -1,6 +1,6 @@
 // The place 9: when a certificate, a timeout and a timeout certificate are good.
-use crate::carried;
 use crate::Certificate;
+use crate::carried;
 use codec::num::u16_at;
 use codec::num::u64_at;
 use settings::Settings;

@@ -1,18 +1,19 @@
 // The safe certificate of a progress certificate: the highest of those carried in its timeouts and those that equal high votes build.
+use crate::Certificate;
 use crate::carried;
 use crate::good::block_certificate;
-use crate::Certificate;
 use codec::name::same;
 use codec::num::u16_at;
 use settings::Settings;
 use settings::View;
+use wire::Vote;
 use wire::read::timeout;
 use wire::read::vote;
-use wire::Vote;
 ghost use mathlib.Core.Path.{_≡_};
 ghost use mathlib.Core.List.{map};
 ghost use Prim.Native.Nat.{_+_, _*_, _-_, _≤_, _<_, _^_};
 ghost use lib.ListN.{length, drop};
+ghost use Rattle.settings.specs.Quorum.{largest, replicas};
 ghost use Rattle.wire.specs.Fields.{kindOf, countOf, cut};
 ghost use Rattle.wire.specs.Content.{timeoutOf, certificateOf};
 ghost use Rattle.certificate.specs.Safe.{signs, joins, gives, backedBy, backing, better, each, carriedBy, builtBy, safeOfTimeouts, safeCertificate};
@@ -24,11 +25,12 @@ fn signs(signers: u64, i: u64) -> bool
     (signers >> i) % 2 == 1
 }
 
-// The set with replica i in it, if it is one that a cluster can have.
-fn joins(i: u64, signers: u64) -> u64
-    ensures { λ r. ⌜ r ≡ joins i signers ⌝ }
+// The set with replica i in it, if there is one of that number among n.
+fn joins(n: u64, i: u64, signers: u64) -> u64
+    requires { ⌜ n ≤ largest ⌝ }
+    ensures { λ r. ⌜ r ≡ joins n i signers ⌝ }
 {
-    if i < Settings::LARGEST {
+    if i < n {
         if !signs(signers, i) {
             return signers + (1u64 << i);
         }
@@ -56,22 +58,22 @@ pub struct Backing {
 }
 
 // One timeout more.
-fn backed_by(rec: &[u8], high: Vote, b: Backing) -> Backing
-    requires { ⌜ (112 ≤ length (now rec)) × (b .count < 2 ^ 62) ⌝ }
-    ensures { λ r. ⌜ r ≡ backedBy (high .view .0) (high .name) (timeoutOf (now (rec .entry))) b ⌝ }
+fn backed_by(n: u64, rec: &[u8], high: Vote, b: Backing) -> Backing
+    requires { ⌜ (n ≤ largest) × ((112 ≤ length (now rec)) × (b .count < 2 ^ 62)) ⌝ }
+    ensures { λ r. ⌜ r ≡ backedBy n (high .view .0) (high .name) (timeoutOf (now (rec .entry))) b ⌝ }
 {
     if gives(rec, high) {
         return Backing {
             count: b.count + 1,
-            signers: joins(u16_at(rec, 6) as u64, b.signers),
+            signers: joins(n, u16_at(rec, 6) as u64, b.signers),
         };
     }
     b
 }
 
-fn count_backing(rec: &[u8], count: usize, high: Vote) -> Backing
-    requires { ⌜ (24 + 112 * count ≤ length (now rec)) × (count < 2 ^ 16) ⌝ }
-    ensures { λ r. ⌜ r ≡ backing (high .view .0) (high .name) (map timeoutOf (cut count (drop 24 (now (rec .entry))))) ⌝ }
+fn count_backing(n: u64, rec: &[u8], count: usize, high: Vote) -> Backing
+    requires { ⌜ (n ≤ largest) × ((24 + 112 * count ≤ length (now rec)) × (count < 2 ^ 16)) ⌝ }
+    ensures { λ r. ⌜ r ≡ backing n (high .view .0) (high .name) (map timeoutOf (cut count (drop 24 (now (rec .entry))))) ⌝ }
 {
     let mut b = Backing {
         count: 0,
@@ -80,7 +82,7 @@ fn count_backing(rec: &[u8], count: usize, high: Vote) -> Backing
     let mut i = 0;
     while i < count {
         let at = 24 + 112 * i;
-        b = backed_by(&rec[at..at + 112], high, b);
+        b = backed_by(n, &rec[at..at + 112], high, b);
         i += 1;
     }
     b
@@ -113,8 +115,14 @@ fn carried_best(rec: &[u8], count: usize, from: usize, k: Certificate) -> Certif
 }
 
 // The certificate that the high vote of a timeout builds, if it is built and outranks k.
-fn built_by(rec: &[u8], count: usize, slot: &[u8], settings: Settings, k: Certificate) -> Certificate
-    requires { ⌜ (24 + 112 * count ≤ length (now rec)) × ((count < 2 ^ 16) × (112 ≤ length (now slot))) ⌝ }
+fn built_by(
+    rec: &[u8],
+    count: usize,
+    slot: &[u8],
+    settings: Settings,
+    k: Certificate,
+) -> Certificate
+    requires { ⌜ (replicas settings ≤ largest) × ((24 + 112 * count ≤ length (now rec)) × ((count < 2 ^ 16) × (112 ≤ length (now slot)))) ⌝ }
     ensures { λ r. ⌜ r ≡ builtBy settings (map timeoutOf (cut count (drop 24 (now (rec .entry))))) (timeoutOf (now (slot .entry))) k ⌝ }
 {
     let high = vote(slot, 16);
@@ -123,7 +131,7 @@ fn built_by(rec: &[u8], count: usize, slot: &[u8], settings: Settings, k: Certif
     if view.0 == 0 {
         return k;
     }
-    let b = count_backing(rec, count, high);
+    let b = count_backing(settings.n(), rec, count, high);
     if b.count < settings.weak_quorum() {
         return k;
     }
@@ -139,7 +147,7 @@ fn built_by(rec: &[u8], count: usize, slot: &[u8], settings: Settings, k: Certif
 }
 
 fn built_best(rec: &[u8], count: usize, settings: Settings, k: Certificate) -> Certificate
-    requires { ⌜ (24 + 112 * count ≤ length (now rec)) × (count < 2 ^ 16) ⌝ }
+    requires { ⌜ (replicas settings ≤ largest) × ((24 + 112 * count ≤ length (now rec)) × (count < 2 ^ 16)) ⌝ }
     ensures { λ r. ⌜ r ≡ each (builtBy settings (map timeoutOf (cut count (drop 24 (now (rec .entry)))))) k (map timeoutOf (cut count (drop 24 (now (rec .entry))))) ⌝ }
 {
     let mut best = k;
@@ -154,7 +162,7 @@ fn built_best(rec: &[u8], count: usize, settings: Settings, k: Certificate) -> C
 
 // The safe certificate of the timeouts of a record of kind 6.
 fn safe_of_timeouts(rec: &[u8], count: usize, settings: Settings) -> Certificate
-    requires { ⌜ (24 + 112 * count ≤ length (now rec)) × (count < 2 ^ 16) ⌝ }
+    requires { ⌜ (replicas settings ≤ largest) × ((24 + 112 * count ≤ length (now rec)) × (count < 2 ^ 16)) ⌝ }
     ensures { λ r. ⌜ r ≡ safeOfTimeouts settings (map timeoutOf (cut count (drop 24 (now (rec .entry))))) ⌝ }
 {
     if count == 0 {
@@ -173,7 +181,7 @@ fn safe_of_timeouts(rec: &[u8], count: usize, settings: Settings) -> Certificate
 
 // The safe certificate of a progress certificate, a record of kind 3 or else 6, of whatever content.
 pub fn safe_certificate(rec: &[u8], settings: Settings) -> Certificate
-    requires { ⌜ (24 ≤ length (now rec)) × ((kindOf (now rec) ≡ 3 → 56 ≤ length (now rec)) × ((kindOf (now rec) ≡ 3 → ⊥) → 24 + 112 * countOf (now rec) ≤ length (now rec))) ⌝ }
+    requires { ⌜ (replicas settings ≤ largest) × ((24 ≤ length (now rec)) × ((kindOf (now rec) ≡ 3 → 56 ≤ length (now rec)) × ((kindOf (now rec) ≡ 3 → ⊥) → 24 + 112 * countOf (now rec) ≤ length (now rec)))) ⌝ }
     ensures { λ r. ⌜ r ≡ safeCertificate settings (certificateOf (now (rec .entry))) ⌝ }
 {
     if u16_at(rec, 4) == 3 {

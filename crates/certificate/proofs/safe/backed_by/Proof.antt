@@ -14,8 +14,8 @@ use Rattle.codec.proofs.num.u16_at.Reads as u16-at-reads
 gives-requires : tie.Need-gives-requires
 gives-requires c κs = search needs
 
-add-t5 : tie.Need-add-t5
-add-t5 c = search needs
+add-t6 : tie.Need-add-t6
+add-t6 c = search needs
 
 u16-at-requires : tie.Need-u16-at-requires
 u16-at-requires c κs = search needs
@@ -37,4 +37,4 @@ returns-2 c = rw (← c .before .gives .ensures, c .if1 .left)
 pub backed-by-spec : {M : Type 1} → statement M
 backed-by-spec =
     tie.close
-    (tie.spec gives-requires add-t5 u16-at-requires cast-joins joins-requires returns returns-2)
+    (tie.spec gives-requires add-t6 u16-at-requires cast-joins joins-requires returns returns-2)

@@ -17,6 +17,9 @@ vote-requires c κs = search needs
 returns : tie.Need-returns
 returns c = built-none _ _ _ _ _ (c .before .before .before .before .vote .ensures) (c .if1 .taken)
 
+n-requires : tie.Need-n-requires
+n-requires c κs = search needs
+
 count-backing-requires : tie.Need-count-backing-requires
 count-backing-requires c κs = search needs
 
@@ -24,13 +27,13 @@ weak-quorum-requires : tie.Need-weak-quorum-requires
 weak-quorum-requires c κs = search needs
 
 returns-2 : tie.Need-returns-2
-returns-2 c = built-few _ _ _ _ _ (c .before .before .before .before .before .before .before .before .vote .ensures) _ (c .before .before .before .count-backing .ensures) (c .before .before .before .before .if1 .left) (omega (arith, c .if2 .taken, c .before .before .weak-quorum .ensures))
+returns-2 c = built-few _ _ _ _ _ (c .before .before .before .before .before .before .before .before .before .vote .ensures) _ (rw (c .before .before .before .before .n .ensures) at (c .before .before .before .count-backing .ensures)) (c .before .before .before .before .before .if1 .left) (omega (arith, c .if2 .taken, c .before .before .weak-quorum .ensures))
 
 better-requires : tie.Need-better-requires
 better-requires c κs = search needs
 
 returns-3 : tie.Need-returns-3
-returns-3 c = built-made _ _ _ _ _ (c .before .before .before .before .before .before .before .before .before .vote .ensures) _ (c .before .before .before .before .count-backing .ensures) (c .before .before .before .before .before .if1 .left) (omega (arith, c .before .if2 .left, c .before .before .before .weak-quorum .ensures)) (c .better .ensures)
+returns-3 c = built-made _ _ _ _ _ (c .before .before .before .before .before .before .before .before .before .before .vote .ensures) _ (rw (c .before .before .before .before .before .n .ensures) at (c .before .before .before .before .count-backing .ensures)) (c .before .before .before .before .before .before .if1 .left) (omega (arith, c .before .if2 .left, c .before .before .before .weak-quorum .ensures)) (c .better .ensures)
 
 pub built-by-spec : {M : Type 1} → statement M
 built-by-spec =
@@ -38,6 +41,7 @@ built-by-spec =
     (tie.spec
     vote-requires
     returns
+    n-requires
     count-backing-requires
     weak-quorum-requires
     returns-2

@@ -18,10 +18,10 @@ use Rattle.certificate.proofs.safe.count_backing.Lts as lts
 use Rattle.certificate.proofs.safe.backed_by.Reads as backed-by-reads
 
 abbrev Inv-loop : tie.InvT-loop
-Inv-loop rec count high b₀ i₀ b i = (i ≤ count) × ((b .count ≤ i) × (backing (high .view .0) (high .name) (map timeoutOf (cut count (drop 24 rec))) ≡ each (backedBy (high .view .0) (high .name)) b (timeoutsFrom rec count i)))
+Inv-loop n rec count high b₀ i₀ b i = (i ≤ count) × ((b .count ≤ i) × (backing n (high .view .0) (high .name) (map timeoutOf (cut count (drop 24 rec))) ≡ each (backedBy n (high .view .0) (high .name)) b (timeoutsFrom rec count i)))
 
 abbrev μ-loop : tie.MeasureT-loop
-μ-loop rec count high b₀ i₀ b i = count - i
+μ-loop n rec count high b₀ i₀ b i = count - i
 
 loop-holds : tie.Need-loop-holds Inv-loop μ-loop
 loop-holds c = (search needs, (search needs, rw sub-zero))
@@ -55,7 +55,7 @@ loop-less c = search needs
 
 loop-again : tie.Need-loop-again Inv-loop μ-loop
 loop-again c = let l = c .before .before .before .loop in
-    (omega arith, (backed-count _ _ _ (l .b) (c .backed-by .ensures) (l .inv .1 .0), l .inv .1 .1 ∙ each-on _ _ _ _ _ (c .before .before .loop-test .taken) (c .backed-by .ensures)))
+    (omega arith, (backed-count _ _ _ _ (l .b) (c .backed-by .ensures) (l .inv .1 .0), l .inv .1 .1 ∙ each-on _ _ _ _ _ (c .before .before .loop-test .taken) (c .backed-by .ensures)))
 
 returns : tie.Need-returns Inv-loop μ-loop
 returns c = sym (c .before .loop .inv .1 .1 ∙ each-end _ _ _ _ _ (c .loop-test .left))

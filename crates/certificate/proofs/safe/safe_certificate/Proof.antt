@@ -20,7 +20,7 @@ u16-at-requires : tie.Need-u16-at-requires
 u16-at-requires c κs = search needs
 
 block-certificate-requires : tie.Need-block-certificate-requires
-block-certificate-requires c κs = c .before .before .before .pre .1 .0 (sym (c .before .u16-at .ensures) ∙ c .if1 .taken)
+block-certificate-requires c κs = c .before .before .before .pre .1 .1 .0 (sym (c .before .u16-at .ensures) ∙ c .if1 .taken)
 
 returns : tie.Need-returns
 unfolding safeCertificate certificateOf blockCertificateOf
@@ -33,7 +33,7 @@ cast-count : tie.Need-cast-count
 cast-count c = search needs
 
 safe-of-timeouts-requires : tie.Need-safe-of-timeouts-requires
-safe-of-timeouts-requires c κs = let h : 24 + 112 * countOf (c .before .before .before .before .args .rec .now) ≤ length (c .before .before .before .before .args .rec .now) = c .before .before .before .before .pre .1 .1 (λ k. c .before .if1 .left (c .before .before .u16-at .ensures ∙ k)) in omega (arith, c .u16-at2 .ensures)
+safe-of-timeouts-requires c κs = let h : 24 + 112 * countOf (c .before .before .before .before .args .rec .now) ≤ length (c .before .before .before .before .args .rec .now) = c .before .before .before .before .pre .1 .1 .1 (λ k. c .before .if1 .left (c .before .before .u16-at .ensures ∙ k)) in omega (arith, c .u16-at2 .ensures)
 
 returns-2 : tie.Need-returns-2
 unfolding safeCertificate certificateOf
