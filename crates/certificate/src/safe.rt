@@ -18,7 +18,7 @@ ghost use Rattle.wire.specs.Fields.{kindOf, countOf, cut};
 ghost use Rattle.wire.specs.Content.{timeoutOf, certificateOf};
 ghost use Rattle.certificate.specs.Safe.{signs, joins, gives, backedBy, backing, better, each, carriedBy, builtBy, safeOfTimeouts, safeCertificate};
 
-fn signs(signers: u64, i: u64) -> bool
+pub fn signs(signers: u64, i: u64) -> bool
     requires { ⌜ i < 64 ⌝ }
     ensures { λ r. ⌜ r ≡ signs signers i ⌝ }
 {

@@ -1,0 +1,55 @@
+//! What the simulation asks of a replica.
+
+/// One replica as a step machine: calls over bytes and numbers. To save is to clone, to restore is to put the clone
+/// back. A refused call changes nothing and writes nothing.
+pub trait Core: Clone {
+    /// What an opening is told beside the settings, such as deliberate errors.
+    type Options: Copy;
+
+    /// Opens replica `own`, or gives the refusal's number.
+    fn open(options: Self::Options, f: u64, c: u64, k: u64, n: u64, own: u64) -> Result<Self, u16>;
+
+    /// Each call answers 0 or the refusal's number, and appends what it writes to `output`.
+    fn record(&mut self, bytes: &[u8], output: &mut Vec<u8>) -> u16;
+    fn timer(&mut self, view: u64, output: &mut Vec<u8>) -> u16;
+    fn propose(&mut self, name: [u8; 32], output: &mut Vec<u8>) -> u16;
+
+    fn view(&self) -> u64;
+    /// The highest view that it sent a timeout for.
+    fn timed(&self) -> u64;
+    /// The tip's height.
+    fn height(&self) -> u64;
+}
+
+/// The other implementation, with any of its deliberate errors.
+impl Core for oracle::Replica {
+    type Options = oracle::Faults;
+
+    fn open(faults: oracle::Faults, f: u64, c: u64, k: u64, n: u64, own: u64) -> Result<Self, u16> {
+        oracle::Replica::open_with(f, c, k, n, own, faults).map_err(oracle::Refusal::number)
+    }
+
+    fn record(&mut self, bytes: &[u8], output: &mut Vec<u8>) -> u16 {
+        oracle::answer(oracle::Replica::record(self, bytes, output))
+    }
+
+    fn timer(&mut self, view: u64, output: &mut Vec<u8>) -> u16 {
+        oracle::answer(oracle::Replica::timer(self, oracle::View(view), output))
+    }
+
+    fn propose(&mut self, name: [u8; 32], output: &mut Vec<u8>) -> u16 {
+        oracle::answer(oracle::Replica::propose(self, name, output))
+    }
+
+    fn view(&self) -> u64 {
+        self.counters.view.0
+    }
+
+    fn timed(&self) -> u64 {
+        self.counters.timed.0
+    }
+
+    fn height(&self) -> u64 {
+        self.counters.tip.height.0
+    }
+}

@@ -1,0 +1,27 @@
+//! A deterministic simulated cluster over any replica that is a `Core`: a network that loses, doubles, delays and
+//! reorders, hosts that stop and resume, and up to f Byzantine replicas. After each call the claim of demand 3 is
+//! checked: the honest replicas' releases are one chain.
+
+mod adversary;
+mod chain;
+mod cluster;
+mod core;
+mod coverage;
+mod ledger;
+mod network;
+mod plan;
+mod random;
+mod rounds;
+pub mod scenarios;
+mod script;
+
+pub use crate::core::Core;
+pub use chain::{Rows, Violation};
+pub use cluster::{Cluster, Outcome};
+pub use coverage::{Call, Coverage, Row, SafeKind};
+pub use ledger::{Backing, Ledger, Made};
+pub use network::Run;
+pub use plan::{Failure, Plan, Style};
+pub use random::Random;
+pub use rounds::Rounds;
+pub use script::Script;

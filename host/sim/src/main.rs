@@ -1,0 +1,142 @@
+//! Plays random runs of simulated clusters and prints what they reached, or one scripted run in words.
+
+use std::process::ExitCode;
+use std::time::Instant;
+
+use oracle::{Faults, Protocol, Replica, Settings};
+use sim::{scenarios, Coverage, Plan, Script, Style};
+
+const USAGE: &str = "\
+usage: sim [--calls N] [--seed S] [--settings f,c,k].. [--longest N]
+           [--style both|network|rounds|old-states] [--fault NAME]..
+       sim --scenario NAME     the scripted run for a fault, or `resume`, with the error and without it";
+
+struct Options {
+    calls: u64,
+    seed: u64,
+    longest: Option<u64>,
+    settings: Vec<Settings>,
+    faults: Faults,
+    style: Style,
+    scenario: Option<String>,
+}
+
+fn settings(text: &str) -> Option<Settings> {
+    let numbers: Vec<u64> = text.split(',').map(|number| number.parse().ok()).collect::<Option<_>>()?;
+    match numbers[..] {
+        [f, c, k] => Settings::new(f, c, k),
+        _ => None,
+    }
+}
+
+fn style(text: &str) -> Option<Style> {
+    match text {
+        "both" => Some(Style::Both),
+        "network" => Some(Style::Network),
+        "rounds" => Some(Style::Rounds),
+        "old-states" => Some(Style::OldStates),
+        _ => None,
+    }
+}
+
+fn options(mut arguments: impl Iterator<Item = String>) -> Option<Options> {
+    let mut options = Options {
+        calls: 1_000_000,
+        seed: 1,
+        longest: None,
+        settings: Vec::new(),
+        faults: Faults::NONE,
+        style: Style::Both,
+        scenario: None,
+    };
+    while let Some(option) = arguments.next() {
+        let value = arguments.next()?;
+        match option.as_str() {
+            "--calls" => options.calls = value.parse().ok()?,
+            "--seed" => options.seed = value.parse().ok()?,
+            "--longest" => options.longest = Some(value.parse().ok()?),
+            "--settings" => options.settings.push(settings(&value)?),
+            "--style" => options.style = style(&value)?,
+            "--fault" if options.faults.set(&value) => {}
+            "--scenario" => options.scenario = Some(value),
+            _ => return None,
+        }
+    }
+    if options.settings.is_empty() {
+        let usual = ["1,1,0", "0,4,0", "2,2,2", "1,2,0", "2,1,2", "7,5,0"];
+        options.settings = usual.iter().filter_map(|text| settings(text)).collect();
+    }
+    Some(options)
+}
+
+fn main() -> ExitCode {
+    let Some(options) = options(std::env::args().skip(1)) else {
+        eprintln!("{USAGE}");
+        return ExitCode::FAILURE;
+    };
+    let good = match &options.scenario {
+        Some(name) => tell(name),
+        None => explore(&options),
+    };
+    if good { ExitCode::SUCCESS } else { ExitCode::FAILURE }
+}
+
+/// Random runs; false if one broke the claim.
+fn explore(options: &Options) -> bool {
+    let mut coverage = Coverage::default();
+    let mut good = true;
+    for &settings in &options.settings {
+        let protocol = Protocol::new(settings, options.faults);
+        let plan: Plan<Replica> = Plan {
+            options: options.faults,
+            protocol,
+            seed: options.seed,
+            calls: options.calls / options.settings.len() as u64,
+            longest: options.longest.unwrap_or(Plan::<Replica>::usual_longest(&protocol)),
+            style: options.style,
+        };
+        let start = Instant::now();
+        print!("({},{},{}) n {}: ", settings.f(), settings.c(), settings.k(), settings.n());
+        match plan.play(&mut coverage) {
+            Ok(calls) => println!("{calls} calls, one chain, {:.1} s", start.elapsed().as_secs_f64()),
+            Err(failure) => {
+                println!("{failure:?}");
+                good = false;
+            }
+        }
+    }
+    println!("\n{coverage}");
+    println!("never reached: {}", coverage.empty_rows().join(", "));
+    good
+}
+
+/// A scripted run in words; false if there is none of that name.
+fn tell(name: &str) -> bool {
+    let protocol = |faults| Protocol::new(Settings::new(1, 1, 0).expect("the cluster of six"), faults);
+    if name == "resume" {
+        for (title, old_state) in [("from an old state", true), ("from the last finished call", false)] {
+            let mut script: Script<Replica> = Script::open(Faults::NONE, protocol(Faults::NONE), &[0]);
+            scenarios::resume(&mut script, old_state);
+            print_script(&format!("resume {title}"), &script);
+        }
+        return true;
+    }
+    let Some(scenario) = scenarios::all::<Replica>().into_iter().find(|scenario| scenario.fault == name) else {
+        eprintln!("no scenario {name}");
+        return false;
+    };
+    let mut faults = Faults::NONE;
+    faults.set(name);
+    print_script(&format!("with {name}"), &scenarios::play(&scenario, faults, protocol(faults)));
+    print_script(&format!("without {name}"), &scenarios::play(&scenario, Faults::NONE, protocol(Faults::NONE)));
+    true
+}
+
+fn print_script(title: &str, script: &Script<Replica>) {
+    println!("== {title}");
+    script.trace().iter().for_each(|line| println!("{line}"));
+    for replica in (0..script.cluster.n()).filter(|&replica| !script.row(replica).is_empty()) {
+        println!("replica {replica} has released {}", script.row(replica));
+    }
+    println!("{}\n", if script.cluster.rows().is_one_chain() { "one chain" } else { "TWO CHAINS" });
+}
