@@ -1,0 +1,22 @@
+use mathlib.Core.Path.{_≡_, refl, sym, ap, _∙_}
+use Rattle.memory.specs.Layout.{blockCountOf}
+use borrow.Author.Needs.{needs}
+use native.Mathlib.Omega.{arith}
+use Rattle.memory.proofs.block_count.Statement.{statement}
+use Rattle.memory.proofs.block_count.Tie as tie
+use Rattle.memory.proofs.block_count.Reads as reads
+use Rattle.memory.proofs.block_count.Lts as lts
+use Rattle.codec.proofs.num.u16_at.Reads as u16-at-reads
+
+u16-at-requires : tie.Need-u16-at-requires
+u16-at-requires c κs = search needs
+
+cast-result : tie.Need-cast-result
+cast-result c = search needs
+
+returns : tie.Need-returns
+unfolding blockCountOf
+returns c = c .u16-at .ensures
+
+pub block-count-spec : {M : Type 1} → statement M
+block-count-spec = tie.close (tie.spec u16-at-requires cast-result returns)
