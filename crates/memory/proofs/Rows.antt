@@ -3,7 +3,7 @@ use mathlib.Core.Path.{_≡_, refl, sym, ap, ap₂, subst, _∙_}
 use mathlib.Core.Bool.{Bool, true, false, cond}
 use mathlib.Core.List.{List, [], _∷_, _++_, append-nil, append-assoc}
 use Prim.Native.Nat.{ℕ, zero, suc, _+_, _-_, _*_, _^_, _≤_, _<_}
-use native.Mathlib.Nat.{pow-suc, add-zero}
+use native.Mathlib.Nat.{pow-suc, add-zero, mul-suc}
 use native.Mathlib.Numerals.{add-one}
 use native.Mathlib.Omega.{arith}
 use lib.Dec.{lit<}
@@ -75,6 +75,15 @@ module _ (m : List ℕ) (row width : ℕ) where
       go : (t : Bool) → has m row i ≡ t → length (gathered m row width i 1) ≤ width
       go true e = omega (arith, ap length (gather-one i e), length-kept i n h l)
       go false e = omega (arith, ap length (gather-none i e))
+
+  pub gathered-le : (i k n : ℕ) → i + k ≤ n → row + (8 + width * n) ≤ length m → length (gathered m row width i k) ≤ width * k
+  unfolding gathered
+  gathered-le i zero n h l = omega arith
+  gathered-le i (suc k) n h l = go (has m row i) (gathered-le (suc i) k n (omega arith) l)
+    where
+      go : (t : Bool) → length (gathered m row width (suc i) k) ≤ width * k → length (cond t (kept m row width i ++ gathered m row width (suc i) k) (gathered m row width (suc i) k)) ≤ width * suc k
+      go true g = omega (arith, length-append (kept m row width i) (gathered m row width (suc i) k), length-kept i n (let b : i < n = omega arith in b) l, mul-suc width k)
+      go false g = omega (arith, mul-suc width k)
 
   -- one entry is put, or none
   module _ (i n at : ℕ) (out : List ℕ) (h : i < n) (l : row + (8 + width * n) ≤ length m) where

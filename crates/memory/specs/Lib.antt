@@ -1,3 +1,5 @@
 pub mod Layout
 pub mod Kept
 pub mod Window
+pub mod Decided
+pub mod Formed

@@ -1,0 +1,32 @@
+use mathlib.Core.Path.{_≡_, refl, sym, ap, subst, _∙_}
+use Rattle.memory.specs.Decided.{nextDecided}
+use borrow.Author.Needs.{needs}
+use native.Mathlib.Omega.{arith}
+use Rattle.memory.proofs.decided.next_decided.Statement.{statement}
+use Rattle.memory.proofs.decided.next_decided.Tie as tie
+use Rattle.memory.proofs.decided.next_decided.Reads as reads
+use Rattle.memory.proofs.decided.next_decided.Lts as lts
+use Rattle.memory.proofs.decided.choose.Reads as choose-reads
+use Rattle.memory.proofs.kept.commit_row.Reads as commit-row-reads
+use Rattle.memory.proofs.kept.vote_row.Reads as vote-row-reads
+
+vote-row-requires : tie.Need-vote-row-requires
+vote-row-requires c κs = search needs
+
+choose-requires : tie.Need-choose-requires
+choose-requires c κs = search needs
+
+commit-row-requires : tie.Need-commit-row-requires
+commit-row-requires c κs = search needs
+
+choose-requires-2 : tie.Need-choose-requires-2
+choose-requires-2 c κs = search needs
+
+returns : tie.Need-returns
+unfolding nextDecided
+returns c = rw (← c .before .commit-row .ensures, ← c .before .before .before .vote-row .ensures, ← c .before .before .choose .ensures, c .choose2 .ensures)
+
+pub next-decided-spec : {M : Type 1} → statement M
+next-decided-spec =
+    tie.close
+    (tie.spec vote-row-requires choose-requires commit-row-requires choose-requires-2 returns)

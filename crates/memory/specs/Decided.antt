@@ -1,0 +1,46 @@
+-- The names of a view that enough votes or commits decide, "lowest view first, then smaller name" (01: The box, rules C and D). Assumes nothing.
+use Prim.Native.Nat.{ℕ, zero, suc}
+use mathlib.Core.Bool.{Bool, true, false, cond, not, _&&_, _||_}
+use mathlib.Core.List.{List}
+use lib.Dec.{leb}
+use Rattle.codec.specs.Names.{nameLength, zeroName, lessBytes}
+use Rattle.memory.specs.declared.decided.Choice.{Choice}
+use Rattle.memory.specs.declared.decided.Quest.{Quest}
+use Rattle.memory.specs.Layout.{voteRow, commitRow}
+use Rattle.memory.specs.Kept.{has, kept, tally}
+
+abbrev pub noChoice : Choice
+noChoice = record { some = false; name = zeroName }
+
+abbrev pub chosen : List ℕ → Choice
+chosen x = record { some = true; name = x }
+
+-- above the bound, if there is one
+unfoldable pub above : Choice → List ℕ → Bool
+above after x = not (after .some) || lessBytes (after .name) x
+
+-- and below the best so far, if there is one
+unfoldable pub improves : Choice → Choice → List ℕ → Bool
+improves after best x = above after x && (not (best .some) || lessBytes x (best .name))
+
+module _ (m : List ℕ) where
+  -- enough kept votes, or enough kept commits
+  unfoldable pub decided : Quest → List ℕ → Bool
+  decided q x =
+      leb (q .votes) (tally m (voteRow (q .view)) x (q .n) .count)
+      || leb (q .commits) (tally m (commitRow (q .view)) x (q .n) .count)
+
+  -- replica i's entry in a row
+  unfoldable pub consider : ℕ → Quest → Choice → ℕ → Choice → Choice
+  consider row q after i best =
+      let x = kept m row nameLength i in
+      cond (has m row i && (improves after best x && decided q x)) (chosen x) best
+
+  -- those of the first k replicas, from the best so far on
+  unfoldable pub choose : ℕ → Quest → Choice → Choice → ℕ → Choice
+  choose row q after best zero = best
+  choose row q after best (suc k) = consider row q after k (choose row q after best k)
+
+  -- the least decided name above a bound, of all that are kept for the view
+  unfoldable pub nextDecided : Quest → Choice → Choice
+  nextDecided q after = choose (commitRow (q .view)) q after (choose (voteRow (q .view)) q after noChoice (q .n)) (q .n)

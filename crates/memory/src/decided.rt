@@ -1,0 +1,110 @@
+// The names of a view that enough votes or commits decide, in the order of names.
+use crate::kept::commit_row;
+use crate::kept::count_backers;
+use crate::kept::entry_at;
+use crate::kept::has;
+use crate::kept::vote_row;
+use codec::name::less;
+use codec::name_at;
+ghost use mathlib.Core.Path.{_≡_};
+ghost use Prim.Native.Nat.{_+_, _≤_, _<_};
+ghost use lib.ListN.{length};
+ghost use Rattle.settings.specs.Quorum.{largest};
+ghost use Rattle.memory.specs.Layout.{memoryLength, rowSize};
+ghost use Rattle.memory.specs.Decided.{above, improves, decided, consider, choose, nextDecided};
+
+// A name, or none.
+pub struct Choice {
+    pub some: bool,
+    pub name: [u8; 32],
+}
+
+// What is looked for: a name of a view that has so many votes or so many commits of the first n replicas.
+pub struct Quest {
+    pub view: u64,
+    pub n: usize,
+    pub votes: u64,
+    pub commits: u64,
+}
+
+// Above the bound, if there is one.
+fn above(after: Choice, name: [u8; 32]) -> bool
+    ensures { λ r. ⌜ r ≡ above after name ⌝ }
+{
+    let bound = after.name;
+    if after.some {
+        return less(bound, name);
+    }
+    true
+}
+
+// Above the bound, and below the best so far.
+fn improves(after: Choice, best: Choice, name: [u8; 32]) -> bool
+    ensures { λ r. ⌜ r ≡ improves after best name ⌝ }
+{
+    let other = best.name;
+    if !above(after, name) {
+        return false;
+    }
+    if best.some {
+        return less(name, other);
+    }
+    true
+}
+
+fn decided(mem: &[u8], q: Quest, name: [u8; 32]) -> bool
+    requires { ⌜ (memoryLength ≤ length (now mem)) × (q .n ≤ largest) ⌝ }
+    ensures { λ r. ⌜ r ≡ decided (now (mem .entry)) q name ⌝ }
+{
+    let votes = count_backers(mem, vote_row(q.view), name, q.n);
+    if q.votes <= votes.count {
+        return true;
+    }
+    let commits = count_backers(mem, commit_row(q.view), name, q.n);
+    q.commits <= commits.count
+}
+
+// Replica i's entry in a row, if it has one that improves.
+fn consider(mem: &[u8], row: usize, q: Quest, after: Choice, best: Choice, i: usize) -> Choice
+    requires { ⌜ (memoryLength ≤ length (now mem)) × ((row + rowSize 32 ≤ memoryLength) × ((q .n ≤ largest) × (i < largest))) ⌝ }
+    ensures { λ r. ⌜ r ≡ consider (now (mem .entry)) row q after i best ⌝ }
+{
+    if !has(mem, row, i as u64) {
+        return best;
+    }
+    let name = name_at(mem, entry_at(row, 32, i));
+    if !improves(after, best, name) {
+        return best;
+    }
+    if decided(mem, q, name) {
+        return Choice { some: true, name };
+    }
+    best
+}
+
+fn choose(mem: &[u8], row: usize, q: Quest, after: Choice, first: Choice) -> Choice
+    requires { ⌜ (memoryLength ≤ length (now mem)) × ((row + rowSize 32 ≤ memoryLength) × (q .n ≤ largest)) ⌝ }
+    ensures { λ r. ⌜ r ≡ choose (now (mem .entry)) row q after first (q .n) ⌝ }
+{
+    let n = q.n;
+    let mut best = first;
+    let mut i = 0;
+    while i < n {
+        best = consider(mem, row, q, after, best, i);
+        i += 1;
+    }
+    best
+}
+
+// The least decided name above a bound.
+pub fn next_decided(mem: &[u8], q: Quest, after: Choice) -> Choice
+    requires { ⌜ (memoryLength ≤ length (now mem)) × (q .n ≤ largest) ⌝ }
+    ensures { λ r. ⌜ r ≡ nextDecided (now (mem .entry)) q after ⌝ }
+{
+    let none = Choice {
+        some: false,
+        name: [0u8; 32],
+    };
+    let voted = choose(mem, vote_row(q.view), q, after, none);
+    choose(mem, commit_row(q.view), q, after, voted)
+}
