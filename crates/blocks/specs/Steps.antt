@@ -1,0 +1,27 @@
+-- One step of the walk from parent to parent, and of the drop. Assumes nothing.
+use Prim.Native.Nat.{ℕ, _+_, _-_, _^_}
+use mathlib.Core.Bool.{Bool, true, false, cond, _&&_}
+use mathlib.Core.List.{List}
+use lib.ListN.{drop}
+use Rattle.codec.specs.Names.{sameBytes}
+use Rattle.blocks.specs.Store.{below, descends, only}
+use Rattle.blocks.specs.declared.Block.{Block}
+use Rattle.blocks.specs.declared.Found.{Found}
+use Rattle.blocks.specs.declared.Onward.{Onward}
+use Rattle.blocks.specs.declared.Spot.{Spot}
+
+-- from the block b, of whose parent's name c is held: it goes on at c's block, or it ends here, well where it ends at the tip
+abbrev pub onwardOf : Block → Block → Found → Onward
+onwardOf tip b c = record {
+  goes = cond (sameBytes (tip .name) (b .parent)) false (c .is && below (c .block) b);
+  ends = cond (sameBytes (tip .name) (b .parent)) (below tip b) false;
+  block = c .block;
+}
+
+-- the kept entries from place i on
+unfoldable pub keptFrom : Block → List Block → ℕ → List Block
+keptFrom tip store i = only (descends tip store) (drop i store)
+
+-- an entry that is kept is stored at the next free place; one that is not, past every end
+abbrev pub spotOf : Bool → ℕ → Spot
+spotOf keep at = record { at = cond keep at (2 ^ 64 - 1); next = cond keep (at + 1) at }

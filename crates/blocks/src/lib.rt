@@ -1,0 +1,265 @@
+// Blocks and the store of blocks, lent as a slice of structs: search, fill, the walk from parent to parent, releases, drop.
+// Promises: each function does what its definition in specs/Store.antt says of the first `count` entries, on any content; only `release` asks
+// something, that the block descends and that its records have room. proofs/{Filled, Ancestry, Linked, Kept}.antt have the laws.
+// Rests on `codec`, `wire` and the shared modules of `walks`. Every decision is a function by value; the others move whole blocks.
+ghost use mathlib.Core.Path.{_≡_};
+ghost use mathlib.Core.Bool.{true, cond};
+ghost use Prim.Native.Nat.{_+_, _*_, _^_, _<_, _≤_};
+ghost use lib.Dec.{ltb};
+ghost use lib.ListN.{length, set, getD, take};
+ghost use lib.Seq.{sets};
+ghost use Rattle.codec.specs.Bytes.{patch};
+ghost use Rattle.codec.specs.Names.{sameBytes};
+ghost use Rattle.wire.specs.Encode.{releaseBytes};
+ghost use Rattle.blocks.specs.Steps.{onwardOf, keptFrom, spotOf};
+ghost use Rattle.blocks.specs.Store.{genesis, found, missing, find, held, descends, ancestry, releases, kept, dropped};
+use settings::Height;
+use settings::View;
+use wire::Release;
+
+#[repr(C)]
+pub struct Block {
+    pub name: [u8; 32],
+    pub parent: [u8; 32],
+    pub height: Height,
+}
+
+pub struct Found {
+    pub is: bool,
+    pub block: Block,
+}
+
+// What is found where nothing is: genesis stands in for the block.
+fn nothing() -> Found
+    ensures { λ r. ⌜ r ≡ missing ⌝ }
+{
+    let z = [0u8; 32];
+    Found {
+        is: false,
+        block: Block {
+            name: z,
+            parent: z,
+            height: Height(0),
+        },
+    }
+}
+
+// The block b if it has the name, and otherwise what was found before.
+fn pick(b: Block, name: [u8; 32], before: Found) -> Found
+    ensures { λ r. ⌜ r ≡ cond (sameBytes (b .name) name) (found b) before ⌝ }
+{
+    let n = b.name;
+    if codec::name::same(n, name) {
+        return Found { is: true, block: b };
+    }
+    before
+}
+
+fn lesser(a: usize, b: usize) -> usize
+    ensures { λ r. ⌜ r ≡ cond (ltb a b) a b ⌝ }
+{
+    if a < b {
+        return a;
+    }
+    b
+}
+
+fn entry(store: &[Block], i: usize) -> Block
+    requires { ⌜ i < length (now store) ⌝ }
+    ensures { λ r. ⌜ r ≡ getD (now (store .entry)) i genesis ⌝ }
+{
+    store[i]
+}
+
+// Past the end it does nothing, as `set`.
+pub fn fill(store: &mut [Block], at: usize, b: Block)
+    ensures { λ _. ⌜ now (store .exit) ≡ set (now (store .entry)) at b ⌝ }
+{
+    if at < store.len() {
+        store[at] = b;
+    }
+}
+
+// The one loop over the store: the first n entries, the last one first, so that the first entry of the name is what stays.
+fn scan(store: &[Block], n: usize, name: [u8; 32], none: Found) -> Found
+    requires { ⌜ (n ≤ length (now store)) × (none ≡ missing) ⌝ }
+    ensures { λ r. ⌜ r ≡ find name (take n (now (store .entry))) ⌝ }
+{
+    let mut s = none;
+    let mut i = n;
+    while 0 < i {
+        i -= 1;
+        let b = entry(store, i);
+        s = pick(b, name, s);
+    }
+    s
+}
+
+pub fn search(store: &[Block], count: usize, name: [u8; 32]) -> Found
+    ensures { λ r. ⌜ r ≡ find name (take count (now (store .entry))) ⌝ }
+{
+    let n = lesser(count, store.len());
+    let none = nothing();
+    scan(store, n, name, none)
+}
+
+// The tip first, and then the entries.
+pub fn held(store: &[Block], count: usize, tip: Block, name: [u8; 32]) -> Found
+    ensures { λ r. ⌜ r ≡ held tip (take count (now (store .entry))) name ⌝ }
+{
+    let s = search(store, count, name);
+    pick(tip, name, s)
+}
+
+// One step of the walk from parent to parent: whether it goes on, and at which block; and where it does not, whether it ends well.
+struct Onward {
+    goes: bool,
+    ends: bool,
+    block: Block,
+}
+
+// Every decision of the walk, by value. c is what is held of the name of b's parent.
+fn step(tip: Block, b: Block, c: Found) -> Onward
+    ensures { λ r. ⌜ r ≡ onwardOf tip b c ⌝ }
+{
+    let n = tip.name;
+    let p = b.parent;
+    let d = c.block;
+    if codec::name::same(n, p) {
+        return Onward {
+            goes: false,
+            ends: tip.height.0 < b.height.0,
+            block: d,
+        };
+    }
+    if c.is {
+        return Onward {
+            goes: d.height.0 < b.height.0,
+            ends: false,
+            block: d,
+        };
+    }
+    Onward {
+        goes: false,
+        ends: false,
+        block: d,
+    }
+}
+
+// The heights fall, so that it ends on any content.
+pub fn descends(store: &[Block], count: usize, tip: Block, b: Block) -> bool
+    ensures { λ r. ⌜ r ≡ descends tip (take count (now (store .entry))) b ⌝ }
+{
+    let p = b.parent;
+    let c = held(store, count, tip, p);
+    let s = step(tip, b, c);
+    if s.goes {
+        let d = s.block;
+        descends(store, count, tip, d)
+    } else {
+        s.ends
+    }
+}
+
+// The release of one block, and the place behind it.
+fn put_one(out: &mut [u8], at: usize, sender: u16, view: View, b: Block) -> usize
+    requires { ⌜ at + 56 ≤ length (now out) ⌝ }
+    ensures { λ r. ⌜ (r ≡ at + 56) × (now (out .exit) ≡ patch (now (out .entry)) at (releaseBytes sender (view .0) (b .name) (b .height .0))) ⌝ }
+{
+    let name = b.name;
+    let height = b.height;
+    wire::write::put_release(out, at, sender, Release { view, name, height });
+    at + 56
+}
+
+// What lies below b is written first. Beside what `release` says, a record of each block has 56 bytes.
+fn put_line(
+    store: &[Block],
+    count: usize,
+    tip: Block,
+    b: Block,
+    sender: u16,
+    view: View,
+    out: &mut [u8],
+    at: usize,
+) -> usize
+    requires { ⌜ (descends tip (take count (now store)) b ≡ true) × (at + 56 * length (ancestry tip (take count (now store)) b) ≤ length (now out)) ⌝ }
+    ensures { λ r. ⌜ (r ≡ at + 56 * length (ancestry tip (take count (now (store .entry))) b))
+        × ((length (releases sender (view .0) (ancestry tip (take count (now (store .entry))) b)) ≡ 56 * length (ancestry tip (take count (now (store .entry))) b))
+        × (now (out .exit) ≡ patch (now (out .entry)) at (releases sender (view .0) (ancestry tip (take count (now (store .entry))) b)))) ⌝ }
+{
+    let p = b.parent;
+    let c = held(store, count, tip, p);
+    let s = step(tip, b, c);
+    if s.goes {
+        let d = s.block;
+        let k = put_line(store, count, tip, d, sender, view, out, at);
+        put_one(out, k, sender, view, b)
+    } else {
+        put_one(out, at, sender, view, b)
+    }
+}
+
+pub fn release(
+    store: &[Block],
+    count: usize,
+    tip: Block,
+    b: Block,
+    sender: u16,
+    view: View,
+    out: &mut [u8],
+    at: usize,
+) -> usize
+    requires { ⌜ (descends tip (take count (now store)) b ≡ true) × (at + 56 * length (ancestry tip (take count (now store)) b) ≤ length (now out)) ⌝ }
+    ensures { λ r. ⌜ (r ≡ at + 56 * length (ancestry tip (take count (now (store .entry))) b))
+        × (now (out .exit) ≡ patch (now (out .entry)) at (releases sender (view .0) (ancestry tip (take count (now (store .entry))) b))) ⌝ }
+{
+    put_line(store, count, tip, b, sender, view, out, at)
+}
+
+// Where an entry that was looked at is stored, and the place of the next one.
+struct Spot {
+    at: usize,
+    next: usize,
+}
+
+// An entry that is not kept is stored past every end, which does nothing.
+fn place_of(keep: bool, at: usize) -> Spot
+    requires { ⌜ at + 1 < 2 ^ 64 ⌝ }
+    ensures { λ r. ⌜ r ≡ spotOf keep at ⌝ }
+{
+    if keep {
+        return Spot { at, next: at + 1 };
+    }
+    Spot {
+        at: 0xffff_ffff_ffff_ffff,
+        next: at,
+    }
+}
+
+// The `left` entries from place i on. Every one is judged before any is stored, so that each walk goes over the store as it was; and what lies
+// behind an entry is stored before it, at places behind its own.
+fn sweep(store: &mut [Block], count: usize, tip: Block, i: usize, left: usize, at: usize) -> usize
+    requires { ⌜ (i + left ≡ length (take count (now store))) × (at ≤ i) ⌝ }
+    ensures { λ r. ⌜ (r ≡ at + length (keptFrom tip (take count (now (store .entry))) i))
+        × (now (store .exit) ≡ sets (now (store .entry)) at (keptFrom tip (take count (now (store .entry))) i)) ⌝ }
+{
+    if 0 < left {
+        let b = entry(store, i);
+        let d = descends(store, count, tip, b);
+        let s = place_of(d, at);
+        let r = sweep(store, count, tip, i + 1, left - 1, s.next);
+        fill(store, s.at, b);
+        r
+    } else {
+        at
+    }
+}
+
+// The new count.
+pub fn drop_others(store: &mut [Block], count: usize, tip: Block) -> usize
+    ensures { λ r. ⌜ (r ≡ length (kept tip (take count (now (store .entry))))) × (now (store .exit) ≡ dropped tip count (now (store .entry))) ⌝ }
+{
+    let n = lesser(count, store.len());
+    sweep(store, count, tip, 0, n, 0)
+}

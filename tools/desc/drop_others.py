@@ -1,0 +1,17 @@
+{
+    'fn': 'blocks::drop_others',
+    'kit': 'walks',
+    'types': {'settings': 'blocks'},
+    'params': ['ys', 'count', 'tip'],
+    'callees': {
+        'blocks::lesser': {'ens': 'r ≡ cond (ltb {0} {1}) {0} {1}'},
+        'blocks::sweep': {'req': 'yes', 'ens': 'Swept {2} (take {1} {0}) {0} {3} {5} r {w0}'},
+    },
+    'asks': ['(omega (arith, e0 ∙ sym (length-lesser count ys)), omega arith)'],
+    'says': ['(swept-all tip count ys r1 _ e1)'],
+    'spec': {
+        'mathlib.Core.Bool': ['cond'],
+        'lib.ListN': ['take'],
+        'Rattle.blocks.proofs.Dropping': ['Swept', 'length-lesser', 'swept-all'],
+    },
+}
