@@ -78,7 +78,11 @@ fn main() -> ExitCode {
         Some(name) => tell(name),
         None => explore(&options),
     };
-    if good { ExitCode::SUCCESS } else { ExitCode::FAILURE }
+    if good {
+        ExitCode::SUCCESS
+    } else {
+        ExitCode::FAILURE
+    }
 }
 
 /// Random runs; false if one broke the claim.

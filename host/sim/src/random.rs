@@ -1,19 +1,16 @@
-//! A small generator of random numbers (splitmix64): the same seed gives the same run on every machine.
+//! Random draws for runs: the same seed gives the same run on every machine.
 
+/// The numbers are those of the streams.
 #[derive(Clone, Debug)]
-pub struct Random(u64);
+pub struct Random(streams::Random);
 
 impl Random {
-    pub fn new(seed: u64) -> Random {
-        Random(seed)
+    pub fn new(seed: u64) -> Self {
+        Random(streams::Random::new(seed))
     }
 
     pub fn number(&mut self) -> u64 {
-        self.0 = self.0.wrapping_add(0x9e37_79b9_7f4a_7c15);
-        let mut z = self.0;
-        z = (z ^ (z >> 30)).wrapping_mul(0xbf58_476d_1ce4_e5b9);
-        z = (z ^ (z >> 27)).wrapping_mul(0x94d0_49bb_1331_11eb);
-        z ^ (z >> 31)
+        self.0.number()
     }
 
     /// A number below `bound`, which is at least 1.

@@ -119,7 +119,11 @@ impl<C: Core> Rounds<C> {
 
     /// A draw that is more often everyone.
     fn generous_lot(&mut self) -> u64 {
-        if self.random.chance(500) { self.honest() } else { self.lot() }
+        if self.random.chance(500) {
+            self.honest()
+        } else {
+            self.lot()
+        }
     }
 
     // ------------------------------------------------------------ calls
@@ -249,7 +253,11 @@ impl<C: Core> Rounds<C> {
     fn liked(&mut self, replica: usize, view: u64) -> Option<[u8; 32]> {
         let votes = &self.cluster.ledger().made(view).votes;
         let own = votes.iter().find(|backing| backing.makers >> replica & 1 == 1).map(|backing| backing.name);
-        if self.random.chance(800) { own } else { self.random.pick(votes).map(|backing| backing.name) }
+        if self.random.chance(800) {
+            own
+        } else {
+            self.random.pick(votes).map(|backing| backing.name)
+        }
     }
 
     fn certificates(&mut self, view: u64) {

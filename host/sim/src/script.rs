@@ -286,7 +286,11 @@ fn block_words(block: &Block) -> String {
 }
 
 fn pair(vote: Vote) -> String {
-    if vote == Vote::NONE { "nothing".to_string() } else { format!("{} in view {}", letter(&vote.name), vote.view.0) }
+    if vote == Vote::NONE {
+        "nothing".to_string()
+    } else {
+        format!("{} in view {}", letter(&vote.name), vote.view.0)
+    }
 }
 
 fn certificate_words(certificate: &Certificate) -> String {

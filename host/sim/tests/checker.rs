@@ -82,9 +82,8 @@ fn honest_votes_cannot_be_forged() {
 #[test]
 fn honest_signers_cannot_be_forged() {
     let mut cluster = six();
-    let certificate = |signers| {
-        record(|out| wire::write_block_certificate(out, 0, &Certificate::block(View(1), A, signers)))
-    };
+    let certificate =
+        |signers| record(|out| wire::write_block_certificate(out, 0, &Certificate::block(View(1), A, signers)));
     assert_eq!(cluster.record(4, &certificate(0b01_1110)), Outcome::Barred);
     for replica in [1, 2, 3] {
         cluster.record(replica, &proposal(&block(A, GENESIS, 1)));
@@ -97,12 +96,8 @@ fn honest_signers_cannot_be_forged() {
 #[test]
 fn honest_timeouts_cannot_be_forged() {
     let mut cluster = six();
-    let timeout = |sender| oracle::Timeout {
-        sender,
-        view: View(1),
-        high_vote: Vote::NONE,
-        certificate: Certificate::GENESIS,
-    };
+    let timeout =
+        |sender| oracle::Timeout { sender, view: View(1), high_vote: Vote::NONE, certificate: Certificate::GENESIS };
     let four = record(|out| wire::write_timeout_certificate(out, 0, View(1), &[0, 1, 2, 3].map(timeout)));
     assert_eq!(cluster.record(5, &four), Outcome::Barred);
     for replica in [1, 2, 3] {
