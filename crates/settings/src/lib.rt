@@ -6,6 +6,7 @@ ghost use Rattle.settings.specs.Quorum.{replicas, slack, blockQuorum, we
 ghost use Rattle.settings.specs.Opening.{admission, opening};
 
 // A view number. Views and heights are types of their own, so that no code compares or adds one to the other.
+#[repr(C)]
 pub struct View(pub u64);
 
 impl View {
@@ -14,6 +15,7 @@ impl View {
 }
 
 // A block's height: the number of its ancestors.
+#[repr(C)]
 pub struct Height(pub u64);
 
 impl Height {

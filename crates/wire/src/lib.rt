@@ -9,6 +9,7 @@ use settings::Height;
 use settings::View;
 
 // A view and a name: a vote, a commit, or a timeout's high vote.
+#[repr(C)]
 pub struct Vote {
     pub view: View,
     pub name: [u8; 32],
