@@ -1,0 +1,88 @@
+-- THE CALLS: opening, record, timer, propose, for every input (01: The box; Refusals). The core gives a refusal, or the replica's next state and the
+-- bytes written; the outcome puts them into the lent regions. Assumes nothing.
+use Prim.Native.Nat.{ℕ}
+use mathlib.Core.Bool.{Bool, not, cond}
+use mathlib.Core.List.{List, [], _∷_, _++_}
+use lib.Dec.{ltb}
+use lib.ListN.{length, drop}
+use Rattle.settings.specs.declared.Settings.{Settings}
+use Rattle.settings.specs.Answer.{Answer, accepts, refuses, Rule, _⇒_, judge}
+use Rattle.settings.specs.Opening.{openingRules}
+use Rattle.codec.specs.Bytes.{patch, leBytes}
+use Rattle.codec.specs.Names.{zeroName}
+use Rattle.wire.specs.Encode.{blockCertificateBytes}
+use Rattle.wire.specs.Shape.{shapeRules}
+use Rattle.wire.specs.Content.{content}
+use Rattle.blocks.specs.declared.Block.{Block}
+use Rattle.memory.specs.Layout.{memoryLength, withEntry, withBlockCount, voteRow, commitRow, timeoutRow}
+use Rattle.memory.specs.Window.{withoutBallots, withoutTimeouts}
+use Rattle.counters.specs.declared.Counters.{Counters}
+use Rattle.counters.specs.Counters.{opened}
+use Rattle.protocol.specs.Work.{Work, n}
+use Rattle.protocol.specs.Refusals.{storeLength, regionRules, refusals, timerRules, proposeRules}
+use Rattle.protocol.specs.Events.{onRecord, onTimer, onPropose}
+use Rattle.protocol.specs.Rules.{settle}
+
+-- one list of rules after another
+infixr 60 _then_
+abbrev pub _then_ : List Rule → List Rule → List Rule
+a then b = a ++ b
+
+-- what a replica has between calls
+pub record Replica : Type 0 where
+  pub counters : Counters
+  pub memory : List ℕ
+  pub store : List Block
+
+abbrev pub begin : Replica → Work
+begin r = record { counters = r .counters; memory = r .memory; store = r .store; out = [] }
+
+-- ---- the core of each call: a refusal, or what is left and written
+module _ (r : Replica) (room : ℕ) where
+  unfoldable pub recordCore : List ℕ → Answer Work
+  recordCore bytes =
+      let W = begin r in
+      judge (regionRules W room then shapeRules (n W) bytes then refusals W bytes (content bytes)) (settle (onRecord bytes (content bytes) W))
+
+  unfoldable pub timerCore : ℕ → Answer Work
+  timerCore v = let W = begin r in judge (regionRules W room then timerRules W v) (settle (onTimer v W))
+
+  unfoldable pub proposeCore : List ℕ → Answer Work
+  proposeCore x = let W = begin r in judge (regionRules W room then proposeRules W x) (settle (onPropose x W))
+
+-- opening: settings and own number, no held block, the genesis certificate as entry certificate, and empty rows
+unfoldable pub openedMemory : List ℕ → Settings → ℕ → List ℕ
+openedMemory m s own =
+    let h = patch m 0 (leBytes 2 (s .f) ++ leBytes 2 (s .c) ++ leBytes 2 (s .k) ++ leBytes 2 own) in
+    withoutTimeouts (withoutBallots (withEntry (withBlockCount h 0) (blockCertificateBytes own 0 zeroName 0)) 0 8) 0 4
+
+unfoldable pub openingCore : Replica → ℕ → ℕ → ℕ → ℕ → ℕ → Answer Work
+openingCore r f c k n own =
+    let s : Settings = record { f = f; c = c; k = k } in
+    judge (openingRules s n own then (ltb (length (r .memory)) memoryLength ⇒ 2 ∷ ltb (length (r .store)) storeLength ⇒ 2 ∷ []))
+    (record { counters = opened; memory = openedMemory (r .memory) s own; store = r .store; out = [] })
+
+-- ---- the outcome: the reply, and each region afterwards. "Answer 0 is acceptance, returned with the number of bytes written; the bytes after them stay."
+pub record Outcome : Type 0 where
+  pub reply : Answer ℕ
+  pub counters : Counters
+  pub memory : List ℕ
+  pub store : List Block
+  pub output : List ℕ
+
+unfoldable pub outcome : Replica → List ℕ → Answer Work → Outcome
+outcome r output (accepts W) =
+    record { reply = accepts (length (W .out)); counters = W .counters; memory = W .memory; store = W .store; output = W .out ++ drop (length (W .out)) output }
+outcome r output (refuses a) = record { reply = refuses a; counters = r .counters; memory = r .memory; store = r .store; output = output }
+
+unfoldable pub recordCall : Replica → List ℕ → List ℕ → Outcome
+recordCall r output bytes = outcome r output (recordCore r (length output) bytes)
+
+unfoldable pub timerCall : Replica → List ℕ → ℕ → Outcome
+timerCall r output v = outcome r output (timerCore r (length output) v)
+
+unfoldable pub proposeCall : Replica → List ℕ → List ℕ → Outcome
+proposeCall r output x = outcome r output (proposeCore r (length output) x)
+
+unfoldable pub openingCall : Replica → ℕ → ℕ → ℕ → ℕ → ℕ → Outcome
+openingCall r f c k n own = outcome r [] (openingCore r f c k n own)
