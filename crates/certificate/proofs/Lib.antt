@@ -1,3 +1,11 @@
 pub mod Signers
 pub mod Timeouts
 pub mod Built
+pub mod Order
+pub mod Admissible
+pub mod Adopting
+pub mod Sets
+pub mod Backing
+pub mod Chosen
+pub mod Goods
+pub mod Known

@@ -22,7 +22,7 @@ unfolding signerCount
 count-ones signers h = ones-in 64 signers h
 
 -- replica j + 1 in a set is replica j in the set without its lowest bit
-signs-suc : (g j : ℕ) → signs g (suc j) ≡ signs (g / 2) j
+pub signs-suc : (g j : ℕ) → signs g (suc j) ≡ signs (g / 2) j
 unfolding signs
 signs-suc g j = ap (λ (x : ℕ). eqb (x % 2) 1) (ap (λ (k : ℕ). g / 2 ^ k) (one-plus j) ∙ sym (shr-shr g 1 j))
   where

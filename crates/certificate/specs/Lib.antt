@@ -1,3 +1,5 @@
 pub mod Rank
 pub mod Good
 pub mod Safe
+pub mod Order
+pub mod Known

@@ -50,7 +50,7 @@ unfolding sameBytes
 same-refl [] = refl
 same-refl (x ∷ a) = rw (eq-eqb x x refl, same-refl a)
 
-and-true : (p q : Bool) → (p && q) ≡ true → (p ≡ true) × (q ≡ true)
+pub and-true : (p q : Bool) → (p && q) ≡ true → (p ≡ true) × (q ≡ true)
 and-true true q e = (refl, e)
 and-true false q e = absurd (false≢true e)
 
