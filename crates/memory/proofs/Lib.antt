@@ -2,3 +2,11 @@ pub mod Places
 pub mod Rows
 pub mod Drops
 pub mod Forming
+pub mod Bits
+pub mod Apart
+pub mod Keeping
+pub mod Clearing
+pub mod Header
+pub mod Entering
+pub mod Counting
+pub mod Choosing
