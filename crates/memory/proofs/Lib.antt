@@ -10,3 +10,4 @@ pub mod Header
 pub mod Entering
 pub mod Counting
 pub mod Choosing
+pub mod Passing

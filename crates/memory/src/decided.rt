@@ -3,6 +3,7 @@ use crate::kept::commit_row;
 use crate::kept::count_backers;
 use crate::kept::entry_at;
 use crate::kept::has;
+use crate::kept::kept_count;
 use crate::kept::vote_row;
 use codec::name::less;
 use codec::name_at;
@@ -11,7 +12,7 @@ ghost use Prim.Native.Nat.{_+_, _≤_, _<_};
 ghost use lib.ListN.{length};
 ghost use Rattle.settings.specs.Quorum.{largest};
 ghost use Rattle.memory.specs.Layout.{memoryLength, rowSize};
-ghost use Rattle.memory.specs.Decided.{above, improves, decided, consider, choose, nextDecided};
+ghost use Rattle.memory.specs.Decided.{tooFew, above, improves, decided, consider, choose, nextDecided};
 
 // A name, or none.
 pub struct Choice {
@@ -96,7 +97,18 @@ fn choose(mem: &[u8], row: usize, q: Quest, after: Choice, first: Choice) -> Cho
     best
 }
 
-// The least decided name above a bound.
+// So few replicas have a vote, and so few a commit, that no name can be decided.
+fn too_few(mem: &[u8], q: Quest) -> bool
+    requires { ⌜ (memoryLength ≤ length (now mem)) × (q .n ≤ largest) ⌝ }
+    ensures { λ r. ⌜ r ≡ tooFew (now (mem .entry)) q ⌝ }
+{
+    if q.votes <= kept_count(mem, vote_row(q.view), q.n as u64) {
+        return false;
+    }
+    kept_count(mem, commit_row(q.view), q.n as u64) < q.commits
+}
+
+// The least decided name above a bound. A view with few entries is passed over at once.
 pub fn next_decided(mem: &[u8], q: Quest, after: Choice) -> Choice
     requires { ⌜ (memoryLength ≤ length (now mem)) × (q .n ≤ largest) ⌝ }
     ensures { λ r. ⌜ r ≡ nextDecided (now (mem .entry)) q after ⌝ }
@@ -105,6 +117,9 @@ pub fn next_decided(mem: &[u8], q: Quest, after: Choice) -> Choice
         some: false,
         name: [0u8; 32],
     };
+    if too_few(mem, q) {
+        return none;
+    }
     let voted = choose(mem, vote_row(q.view), q, after, none);
     choose(mem, commit_row(q.view), q, after, voted)
 }
