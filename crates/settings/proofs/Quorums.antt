@@ -34,6 +34,10 @@ module _ (s : Settings) where
   pub block-honest : s .f < blockQuorum s
   block-honest = omega arith
 
+  -- a slow release has an honest committer
+  pub slow-honest : s .f < slowQuorum s
+  slow-honest = omega arith
+
   pub block-le-fast : blockQuorum s ≤ fastQuorum s
   block-le-fast = omega arith
 

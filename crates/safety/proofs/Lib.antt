@@ -1,0 +1,11 @@
+pub mod Lists
+pub mod Count
+pub mod Rank
+pub mod Safety
+pub mod Rows
+pub mod Trace
+pub mod Select
+pub mod Certificates
+pub mod Signers
+pub mod Run
+pub mod Match

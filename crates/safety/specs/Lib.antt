@@ -1,0 +1,10 @@
+pub mod Lists
+pub mod Count
+pub mod Rank
+pub mod Cluster
+pub mod Rows
+pub mod Trace
+pub mod Select
+pub mod Certificates
+pub mod Run
+pub mod Match
