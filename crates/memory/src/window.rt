@@ -11,7 +11,7 @@ ghost use Rattle.memory.specs.Layout.{memoryLength};
 ghost use Rattle.memory.specs.Window.{lowest, highest, withoutBallots, withoutTimeouts, incoming, entered, leaderOf};
 
 // The first view of a window of votes and commits.
-fn lowest(view: u64) -> u64
+pub fn lowest(view: u64) -> u64
     ensures { λ r. ⌜ r ≡ lowest view ⌝ }
 {
     if view < 6 {
@@ -21,7 +21,7 @@ fn lowest(view: u64) -> u64
 }
 
 // The last view of a window.
-fn highest(view: u64) -> u64
+pub fn highest(view: u64) -> u64
     requires { ⌜ view ≤ 2 ^ 62 ⌝ }
     ensures { λ r. ⌜ r ≡ highest view ⌝ }
 {
