@@ -34,7 +34,7 @@ set-sets : (l vs : List Block) (i j : ℕ) (a : Block) → i < j → set (sets l
 set-sets l [] i j a h = refl
 set-sets l (v ∷ vs) i j a h = set-sets (set l j v) vs i (suc j) a (omega arith) ∙ ap (λ (z : List Block). sets z (suc j) vs) (sym (set-comm l i j a v (λ e. omega (arith, e, h))))
 
-length-only : (test : Block → Bool) (l : List Block) → length (only test l) ≤ length l
+pub length-only : (test : Block → Bool) (l : List Block) → length (only test l) ≤ length l
 unfolding only
 length-only test [] = omega arith
 length-only test (b ∷ l) = by-test (test b) (length-only test l)

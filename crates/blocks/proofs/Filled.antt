@@ -12,7 +12,7 @@ use Rattle.blocks.specs.Store.{found, missing, find}
 use Rattle.blocks.specs.declared.Block.{Block}
 use Rattle.blocks.specs.declared.Found.{Found}
 
-find-append : (x : List ℕ) (l m : List Block) → find x (l ++ m) ≡ cond (find x l .is) (find x l) (find x m)
+pub find-append : (x : List ℕ) (l m : List Block) → find x (l ++ m) ≡ cond (find x l .is) (find x l) (find x m)
 unfolding find
 find-append x [] m = refl
 find-append x (b ∷ l) m = by-test (sameBytes (b .name) x) (find-append x l m)

@@ -22,7 +22,7 @@ module _ (test : Block → Bool) (x : Block) where
       by-test true e h (inr q) = (inr (h q .0), h q .1)
       by-test false e h q = (inr (h q .0), h q .1)
 
-  in-only : (l : List Block) → In x l → test x ≡ true → In x (only test l)
+  pub in-only : (l : List Block) → In x l → test x ≡ true → In x (only test l)
   unfolding only
   in-only [] p e = absurd p
   in-only (b ∷ l) p e = by-test (test b) refl (in-only l) p

@@ -6,3 +6,4 @@ pub mod Dropping
 pub mod Filled
 pub mod Linked
 pub mod Kept
+pub mod Fewer

@@ -37,11 +37,11 @@ linked-more : (p c b : Block) (row : List Block) → Linked p (row ++ (c ∷ [])
 linked-more p c b [] l h = (l .0, (h, tt))
 linked-more p c b (d ∷ row) l h = (l .0, linked-more d c b row (l .1) h)
 
-all-more : (row l : List Block) (c : Block) → AllIn row l → In c l → AllIn (row ++ (c ∷ [])) l
+pub all-more : (row l : List Block) (c : Block) → AllIn row l → In c l → AllIn (row ++ (c ∷ [])) l
 all-more [] l c a i = (i, tt)
 all-more (d ∷ row) l c a i = (a .0, all-more row l c (a .1) i)
 
-find-in : (x : List ℕ) (l : List Block) → find x l .is ≡ true → In (find x l .block) l × (find x l .block .name ≡ x)
+pub find-in : (x : List ℕ) (l : List Block) → find x l .is ≡ true → In (find x l .block) l × (find x l .block .name ≡ x)
 unfolding find
 find-in x [] e = never e
 find-in x (b ∷ l) e = by-test (sameBytes (b .name) x) refl (find-in x l) e
@@ -52,7 +52,7 @@ find-in x (b ∷ l) e = by-test (sameBytes (b .name) x) refl (find-in x l) e
     by-test false s h d = (inr (h d .0), h d .1)
 
 -- what is held of a name that is not the tip's is an entry of that name
-held-in : (tip : Block) (store : List Block) (x : List ℕ) → sameBytes (tip .name) x ≡ false → held tip store x .is ≡ true → In (held tip store x .block) store × (held tip store x .block .name ≡ x)
+pub held-in : (tip : Block) (store : List Block) (x : List ℕ) → sameBytes (tip .name) x ≡ false → held tip store x .is ≡ true → In (held tip store x .block) store × (held tip store x .block .name ≡ x)
 unfolding held
 held-in tip store x s e =
     let is : cond (sameBytes (tip .name) x) (found tip) (find x store) ≡ find x store = ap (λ (t : Bool). cond t (found tip) (find x store)) s in
@@ -63,7 +63,7 @@ module _ (tip : Block) (store : List Block) where
   abbrev Row : Block → Type 0
   Row b = (row : List Block) × ((ancestry tip store b ≡ row ++ (b ∷ [])) × (Linked tip (row ++ (b ∷ [])) × AllIn row store))
 
-  last-tests : (s t : Bool) → cond s t false ≡ true → (s ≡ true) × (t ≡ true)
+  pub last-tests : (s t : Bool) → cond s t false ≡ true → (s ≡ true) × (t ≡ true)
   last-tests true t e = (refl, e)
   last-tests false t e = never e
 
@@ -129,7 +129,7 @@ all-without : (x : Block) (l : List Block) (p : In x l) (q : Block) (row : List 
 all-without x l p q [] k h a = tt
 all-without x l p q (b ∷ row) k h a = (in-without x l p b (omega (arith, h, k .0 .1)) (a .0), all-without x l p b row (k .1) (omega (arith, h, k .0 .1)) (a .1))
 
-linked-within : (p : Block) (row l : List Block) → Linked p row → AllIn row l → length row ≤ length l
+pub linked-within : (p : Block) (row l : List Block) → Linked p row → AllIn row l → length row ≤ length l
 linked-within p [] l k a = omega arith
 linked-within p (b ∷ row) l k a =
     let fewer : length row ≤ length (without b l (a .0)) = linked-within b row (without b l (a .0)) (k .1) (all-without b l (a .0) b row (k .1) (omega arith) (a .1)) in

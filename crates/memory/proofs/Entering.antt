@@ -18,18 +18,18 @@ use Rattle.memory.proofs.Header.{SameBelow, cleared-head}
 
 -- ---- one view after another
 module _ (step : List ℕ → ℕ → List ℕ) where
-  pass : List ℕ → ℕ → ℕ → List ℕ
+  pub pass : List ℕ → ℕ → ℕ → List ℕ
   pass m v zero = m
   pass m v (suc k) = pass (step m v) (suc v) k
 
   -- what every step keeps
-  pass-keeps : (P : List ℕ → Type 0) (m : List ℕ) (v k : ℕ) → ((s : List ℕ) (w : ℕ) → v ≤ w → w < v + k → P s → P (step s w)) → P m → P (pass m v k)
+  pub pass-keeps : (P : List ℕ → Type 0) (m : List ℕ) (v k : ℕ) → ((s : List ℕ) (w : ℕ) → v ≤ w → w < v + k → P s → P (step s w)) → P m → P (pass m v k)
   unfolding pass
   pass-keeps P m v zero h p = p
   pass-keeps P m v (suc k) h p = pass-keeps P (step m v) (suc v) k (λ s w a b. h s w (omega arith) (omega arith)) (h m v (omega arith) (omega arith) p)
 
   -- what the step at u makes and the others keep
-  pass-makes : (Q P : List ℕ → Type 0) (m : List ℕ) (v k u : ℕ) → v ≤ u → u < v + k
+  pub pass-makes : (Q P : List ℕ → Type 0) (m : List ℕ) (v k u : ℕ) → v ≤ u → u < v + k
       → ((s : List ℕ) (w : ℕ) → v ≤ w → w < v + k → Q s → Q (step s w))
       → ((s : List ℕ) → Q s → P (step s u))
       → ((s : List ℕ) (w : ℕ) → v ≤ w → w < v + k → (w ≡ u → ⊥) → P s → P (step s w))
@@ -46,24 +46,24 @@ module _ (step : List ℕ → ℕ → List ℕ) where
       go false e rest = rest (eqb-false v u e)
 
 -- tables, told apart
-abbrev tag : Table → ℕ
+abbrev pub tag : Table → ℕ
 tag votes = 0
 tag commits = 1
 tag timeouts = 2
 
 -- the two passes of entering
-abbrev clears : List ℕ → Table → ℕ → List ℕ
+abbrev pub clears : List ℕ → Table → ℕ → List ℕ
 clears s t w = cleared s (rowOf t w) (widthOf t)
 
-abbrev ballots : List ℕ → ℕ → List ℕ
+abbrev pub ballots : List ℕ → ℕ → List ℕ
 ballots s w = clears (clears s votes w) commits w
 
-ballots-pass : (m : List ℕ) (v k : ℕ) → withoutBallots m v k ≡ pass ballots m v k
+pub ballots-pass : (m : List ℕ) (v k : ℕ) → withoutBallots m v k ≡ pass ballots m v k
 unfolding withoutBallots pass
 ballots-pass m v zero = refl
 ballots-pass m v (suc k) = ballots-pass (ballots m v) (suc v) k
 
-timeouts-pass : (m : List ℕ) (v k : ℕ) → withoutTimeouts m v k ≡ pass (λ s w. clears s timeouts w) m v k
+pub timeouts-pass : (m : List ℕ) (v k : ℕ) → withoutTimeouts m v k ≡ pass (λ s w. clears s timeouts w) m v k
 unfolding withoutTimeouts pass
 timeouts-pass m v zero = refl
 timeouts-pass m v (suc k) = timeouts-pass (clears m timeouts v) (suc v) k

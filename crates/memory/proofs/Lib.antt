@@ -11,3 +11,4 @@ pub mod Entering
 pub mod Counting
 pub mod Choosing
 pub mod Passing
+pub mod Emptying

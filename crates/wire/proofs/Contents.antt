@@ -41,7 +41,7 @@ certificate-stands r s (byBlock v x g) f h = rw (h .reads .1 .0) cc
 certificate-stands r s (byTimeouts v ts) f h =
     rw (h .reads .1 .0) (ap₂ byTimeouts (h .reads .1 .1 .1 .0) (ap (map timeoutOf) (slots-stand r s v ts (f .2) h) ∙ timeouts-back ts (f .2)))
 
-certificate-back : (s : ℕ) (k : Certificate) → s < 2 ^ 16 → CertificateFits k → certificateOf (certificateBytes s k) ≡ k
+pub certificate-back : (s : ℕ) (k : Certificate) → s < 2 ^ 16 → CertificateFits k → certificateOf (certificateBytes s k) ≡ k
 unfolding encode Fits
 certificate-back s k hs f = certificate-stands (certificateBytes s k) s k f (stands-encode (certificate s k) (hs, f))
 

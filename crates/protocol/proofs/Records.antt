@@ -1,0 +1,79 @@
+-- Records that a replica writes, as bytes: what they read as, which forms they have, how they stand one after another. Assumes nothing.
+use Prim.Native.Nat.{ℕ, zero, suc, _+_, _*_, _/_, _^_, _≤_, _<_}
+use mathlib.Core.Bool.{Bool, true, false, cond}
+use mathlib.Core.List.{List, [], _∷_, _++_, map, append-assoc, append-nil}
+use mathlib.Core.Logic.{_⊎_, inl, inr}
+use mathlib.Core.Path.{_≡_, refl, sym, ap, subst, _∙_}
+use native.Mathlib.Omega.{arith}
+use lib.ListN.{length, take, drop, length-append, length-map}
+use Rattle.settings.specs.Quorum.{largest}
+use Rattle.codec.specs.Bytes.{IsBytes, patch, leBytes}
+use Rattle.wire.specs.declared.Timeout.{Timeout}
+use Rattle.wire.specs.Fields.{lengthOf, kindOf, countOf, viewOf, senderOf, headerLength, timeoutLength, timeoutsHead, blockCertificateLength}
+use Rattle.wire.specs.Encode.{joined, timeoutBytes, headerBytes, blockCertificateBytes, timeoutsBytes, certificateBytes, encode}
+use Rattle.wire.specs.Content.{Certificate, byBlock, byTimeouts, certificateOf, Content, certificate, content}
+use Rattle.wire.specs.Fit.{All, IsU16, TimeoutFits, CertificateFits, TimeoutsProper, CertificateProper, Fits}
+use Rattle.wire.proofs.Tables.{Stands, stands-encode, length-stands, length-row, bytes-encode, framed-stands}
+use Rattle.wire.proofs.Contents.{certificate-back}
+use Rattle.wire.proofs.ReadBack.{read-written}
+use Rattle.wire.proofs.Facts.{Framed}
+use Rattle.memory.specs.Layout.{entryRoom}
+use Rattle.protocol.specs.Work.{Work}
+use Rattle.protocol.specs.Refusals.{viewOfProgress}
+use Rattle.protocol.specs.Events.{withSender}
+use Rattle.protocol.specs.OneChain.{readOf, reads, cutRecords}
+use Rattle.protocol.proofs.Regular.{EntryForm}
+use Rattle.protocol.proofs.World.{Sent}
+
+-- what is written reads back
+pub reads-encode : (q : Content) → Fits q → reads (encode q) ≡ readOf q
+reads-encode q f = ap readOf (read-written q f)
+
+-- ---- a certificate's record
+-- at most n replicas send the timeouts of a certificate
+pub proper-few : (n v low : ℕ) (ts : List Timeout) → TimeoutsProper n v low ts → low ≤ n → low + length ts ≤ n
+unfolding TimeoutsProper
+proper-few n v low [] p h = omega arith
+proper-few n v low (t ∷ ts) p h = let k = proper-few n v (suc (t .sender)) ts (p .4) (omega (arith, p .2)) in omega (arith, p .1)
+
+-- kind and length are those of an entry certificate in a cluster of n
+pub certificate-form : (n j : ℕ) (k : Certificate) → j < 2 ^ 16 → CertificateFits k → CertificateProper n k → EntryForm n (certificateBytes j k)
+unfolding CertificateFits CertificateProper Fits encode
+certificate-form n j (byBlock v x g) hj f p =
+    let s = stands-encode (certificate j (byBlock v x g)) (hj, f) in
+    inl (s .reads .1 .0, length-stands (certificateBytes j (byBlock v x g)) (certificate j (byBlock v x g)) s)
+certificate-form n j (byTimeouts v ts) hj f p =
+    let s = stands-encode (certificate j (byTimeouts v ts)) (hj, f) in
+    let l = length-row ts (f .2) in
+    let c : countOf (certificateBytes j (byTimeouts v ts)) ≡ length ts = omega (arith, s .reads) in
+    let few = proper-few n v 0 ts p (omega arith) in
+    inr (s .reads .1 .0, omega arith, omega (arith, length-stands (certificateBytes j (byTimeouts v ts)) (certificate j (byTimeouts v ts)) s))
+
+pub certificate-bytes : (j : ℕ) (k : Certificate) → j < 2 ^ 16 → CertificateFits k → IsBytes (certificateBytes j k)
+unfolding Fits encode
+certificate-bytes j k hj f = bytes-encode (certificate j k) (hj, f)
+
+pub form-short : (n : ℕ) (r : List ℕ) → n ≤ largest → EntryForm n r → length r ≤ entryRoom
+form-short n r h (inl p) = omega (arith, p .1)
+form-short n r h (inr p) = omega (arith, p .1, p .2)
+
+-- sent on with another sender, it says the same
+pub with-sender : (s j : ℕ) (k : Certificate) → withSender j (certificateBytes s k) ≡ certificateBytes j k
+unfolding certificateBytes blockCertificateBytes timeoutsBytes headerBytes leBytes patch
+with-sender s j (byBlock v x g) = refl
+with-sender s j (byTimeouts v ts) = refl
+
+-- ---- records one after another
+pub joined-more : (l : List (List ℕ)) (r : List ℕ) → joined (l ++ (r ∷ [])) ≡ joined l ++ r
+unfolding joined
+joined-more [] r = append-nil r
+joined-more (s ∷ l) r = ap (λ (m : List ℕ). s ++ m) (joined-more l r) ∙ sym (append-assoc s (joined l) r)
+
+pub joined-append : (l m : List (List ℕ)) → joined (l ++ m) ≡ joined l ++ joined m
+unfolding joined
+joined-append [] m = refl
+joined-append (s ∷ l) m = ap (λ (k : List ℕ). s ++ k) (joined-append l m) ∙ sym (append-assoc s (joined l) (joined m))
+
+-- a record as long as its length field says, with a header
+pub sent-framed : (n : ℕ) (r : List ℕ) → Sent n r → Framed r
+sent-framed n r s = subst Framed (sym (s .is)) (framed-stands (encode (s .says)) (s .says) (stands-encode (s .says) (s .fits)))

@@ -1,0 +1,138 @@
+-- Progress, the rules A to D and their run keep a replica regular. Assumes nothing.
+use Prim.Native.Nat.{ℕ, zero, suc, _+_, _-_, _≤_, _<_}
+use native.Mathlib.Omega.{arith}
+use mathlib.Core.Path.{_≡_, refl}
+use mathlib.Core.Bool.{Bool, true, false, cond, _&&_}
+use mathlib.Core.List.{List}
+use lib.Dec.{leb, ltb}
+use lib.ListN.{length}
+use Rattle.settings.specs.Quorum.{largest, lastView, timeoutQuorum}
+use Rattle.codec.proofs.Order.{and-true}
+use Rattle.wire.specs.Fields.{kindOf, blockCertificateLength}
+use Rattle.wire.specs.Content.{Certificate, byBlock, byTimeouts, certificateOf}
+use Rattle.wire.specs.Fit.{CertificateFits}
+use Rattle.certificate.specs.Rank.{blockCertificate, outranks}
+use Rattle.certificate.specs.Safe.{safeCertificate}
+use Rattle.blocks.specs.declared.Block.{Block}
+use Rattle.memory.specs.Layout.{blockCountOf, timeoutRow, voteRow}
+use Rattle.memory.specs.Kept.{keptCount, tally}
+use Rattle.memory.specs.Window.{lowest, highest}
+use Rattle.memory.specs.Decided.{noChoice, nextDecided}
+use Rattle.memory.specs.Formed.{formed}
+use Rattle.counters.specs.Counters.{locksOf}
+use Rattle.protocol.specs.Work.{Work, settings, n, own, viewNow, timed, tip, blocks, heldBlock, send, adopt, enterBy, sendCommit, sendTimeout, release}
+use Rattle.protocol.specs.Typed.{BlockTyped}
+use Rattle.protocol.specs.Refusals.{viewOfProgress}
+use Rattle.protocol.specs.Events.{withSender, commitAfter, progress}
+use Rattle.protocol.specs.Rules.{ruleA, ruleB, ruleC, ruleD, enoughVotes, formedBlock, lowestPair, ballotViews, timeoutViews, each, again, settle}
+use Rattle.protocol.proofs.Typing.{all-take, held-typed}
+use Rattle.protocol.proofs.Regular.{EntryForm, Regular, Still, ProgressForm, still-refl, still-trans, send-regular, adopt-regular, adopt-still, enter-regular}
+use Rattle.protocol.proofs.Actions.{same-still, commit-regular, timeout-regular, release-regular}
+use Rattle.protocol.proofs.Forms.{form-fits, fits-typed, form-view, sender-bytes, sender-form, formed-form, block-kind, block-form, tally-u64, decided-name}
+
+-- ---- either way
+abbrev Next : Work → Work → Type 0
+Next W W′ = Regular W′ × Still W W′
+
+next-if : (W A B : Work) (t : Bool) → (t ≡ true → Next W A) → (t ≡ false → Next W B) → Next W (cond t A B)
+next-if W A B true a b = a refl
+next-if W A B false a b = b refl
+
+-- ---- progress
+commit-after : (k : Certificate) (W : Work) → CertificateFits k → Regular W → Next W (commitAfter k W)
+unfolding CertificateFits
+commit-after (byBlock v x g) W f R = next-if W _ _ (ltb (timed W) v) (λ e. commit-regular W v x (f .1) R) (λ e. (R, still-refl W))
+commit-after (byTimeouts v ts) W f R = (R, still-refl W)
+
+-- the safe certificate of a record of the form is adopted
+pub adopts-regular : (W : Work) (r : List ℕ) → Rattle.codec.specs.Bytes.IsBytes r → EntryForm (n W) r → Regular W → Regular (adopt W (safeCertificate (settings W) (certificateOf r)))
+adopts-regular W r b f R = adopt-regular W _ (fits-typed (settings W) (certificateOf r) (omega (arith, R .few)) (form-fits (n W) r b f)) R
+
+pub progress-regular : (W : Work) (r : List ℕ) → ProgressForm (n W) r → Regular W → Regular (progress r W) × Still W (progress r W)
+unfolding progress adopt
+progress-regular W r f R =
+    let k = certificateOf r in
+    let s = withSender (own W) r in
+    let W₁ = adopt W (safeCertificate (settings W) k) in
+    let R₁ : Regular W₁ = adopts-regular W r (f .bytes) (f .form) R in
+    let W₂ = send W₁ s in
+    let W₃ = enterBy W₂ (suc (viewOfProgress W k)) s in
+    let r₃ = enter-regular W₂ (suc (viewOfProgress W k)) s (omega arith) (omega (arith, form-view W r, f .view)) (sender-bytes (own W) r (f .bytes)) (sender-form (own W) r (n W) (f .form)) (send-regular W₁ s R₁) in
+    let r₄ = commit-after k W₃ (form-fits (n W) r (f .bytes) (f .form)) (r₃ .0) in
+    next-if W (commitAfter k W₃) W₁ (leb (viewNow W) (viewOfProgress W k))
+    (λ e. (r₄ .0, still-trans W W₃ _ (still-trans W W₂ W₃ (same-still W W₂ refl refl) (r₃ .1)) (r₄ .1))) (λ e. (R₁, adopt-still W _))
+
+-- ---- the rules, at a view of the window
+pub A-regular : (W : Work) (v : ℕ) → v < lastView → Regular W → Regular (ruleA v W) × Still W (ruleA v W)
+unfolding ruleA
+A-regular W v h R =
+    next-if W _ _ (leb (viewNow W) v && (ltb (timed W) v && leb (suc (settings W .f)) (keptCount (W .memory) (timeoutRow v) (n W))))
+    (λ e. timeout-regular W v (omega arith) R) (λ e. (R, still-refl W))
+
+pub B-regular : (W : Work) (v : ℕ) → v < lastView → Regular W → Regular (ruleB v W) × Still W (ruleB v W)
+unfolding ruleB
+B-regular W v h R =
+    next-if W _ _ (leb (viewNow W) v && leb (timeoutQuorum (settings W)) (keptCount (W .memory) (timeoutRow v) (n W)))
+    (λ e. progress-regular W _ (formed-form (W .memory) v (n W) (own W) (R .typed .memory) (R .memory-long) (R .few) (R .member) h) R) (λ e. (R, still-refl W))
+
+-- the certificate that rule C forms, if a name is decided
+module _ (W : Work) (v : ℕ) (h : v < lastView) (R : Regular W) (e : nextDecided (W .memory) (enoughVotes v W) noChoice .some ≡ true) where
+  abbrev formedC : List ℕ
+  formedC = formedBlock v W (nextDecided (W .memory) (enoughVotes v W) noChoice .name)
+
+  pub formed-block-kind : (kindOf formedC ≡ 3) × (length formedC ≡ blockCertificateLength)
+  formed-block-kind =
+      block-kind (own W) v _ _ (omega (arith, R .member, R .few)) h
+      (decided-name (W .memory) (enoughVotes v W) noChoice (R .typed .memory) (R .memory-long) (R .few) e) (tally-u64 (W .memory) (voteRow v) _ (n W) (R .few))
+
+  pub formed-block-form : ProgressForm (n W) formedC
+  formed-block-form =
+      block-form (own W) v _ _ (omega (arith, R .member, R .few)) h
+      (decided-name (W .memory) (enoughVotes v W) noChoice (R .typed .memory) (R .memory-long) (R .few) e) (tally-u64 (W .memory) (voteRow v) _ (n W) (R .few)) (n W)
+
+pub C-regular : (W : Work) (v : ℕ) → v < lastView → Regular W → Regular (ruleC v W) × Still W (ruleC v W)
+unfolding ruleC
+C-regular W v h R =
+    let x = nextDecided (W .memory) (enoughVotes v W) noChoice in
+    next-if W _ _ (x .some && outranks (blockCertificate v (x .name) 0) (locksOf (W .counters) .lock))
+    (λ e. progress-regular W _ (formed-block-form W v h R (and-true (x .some) _ e .0)) R) (λ e. (R, still-refl W))
+
+-- what is held, tip or entry, and what a search that finds nothing answers
+pub held-block-typed : (W : Work) (x : List ℕ) → Regular W → BlockTyped (heldBlock W x .block)
+held-block-typed W x R = held-typed (tip W) (blocks W) x (R .typed .counters .tip) (all-take BlockTyped (blockCountOf (W .memory)) (W .store) (R .typed .store))
+
+pub D-regular : (W : Work) → Regular W → Regular (ruleD W) × Still W (ruleD W)
+unfolding ruleD
+D-regular W R =
+    let p = lowestPair (lowest (viewNow W)) (ballotViews W) W in
+    next-if W _ _ (p .name .some) (λ e. release-regular W (p .at) _ (held-block-typed W (p .name .name) R) R) (λ e. (R, still-refl W))
+
+-- ---- their run
+pub each-regular : (rule : ℕ → Work → Work) → ((W : Work) (v : ℕ) → v < lastView → Regular W → Next W (rule v W))
+    → (v k : ℕ) (W : Work) → v + k ≤ lastView → Regular W → Regular (each rule v k W) × Still W (each rule v k W)
+unfolding each
+each-regular rule h v zero W l R = (R, still-refl W)
+each-regular rule h v (suc k) W l R =
+    let a = h W v (omega arith) R in
+    let b = each-regular rule h (suc v) k (rule v W) (omega arith) (a .0) in
+    (b .0, still-trans W (rule v W) _ (a .1) (b .1))
+
+pub again-regular : (k : ℕ) (W : Work) → Regular W → Regular (again k W) × Still W (again k W)
+unfolding again
+again-regular zero W R = (R, still-refl W)
+again-regular (suc k) W R =
+    let a = D-regular W R in
+    let b = again-regular k (ruleD W) (a .0) in
+    (b .0, still-trans W (ruleD W) _ (a .1) (b .1))
+
+pub settle-regular : (W : Work) → Regular W → Regular (settle W) × Still W (settle W)
+unfolding settle
+settle-regular W R =
+    let A = each ruleA (viewNow W) (timeoutViews W) W in
+    let a : Next W A = each-regular ruleA A-regular (viewNow W) (timeoutViews W) W (omega (arith, R .view-last)) R in
+    let B = each ruleB (viewNow A) (timeoutViews A) A in
+    let b : Next A B = each-regular ruleB B-regular (viewNow A) (timeoutViews A) A (omega (arith, a .0 .view-last)) (a .0) in
+    let C = each ruleC (lowest (viewNow B)) (ballotViews B) B in
+    let c : Next B C = each-regular ruleC C-regular (lowest (viewNow B)) (ballotViews B) B (omega (arith, b .0 .view-last)) (b .0) in
+    let d = again-regular (length (blocks C)) C (c .0) in
+    (d .0, still-trans W A _ (a .1) (still-trans A B _ (b .1) (still-trans B C _ (c .1) (d .1))))

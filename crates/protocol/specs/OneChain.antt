@@ -1,0 +1,234 @@
+-- DEMAND 3 (01: A run of the ring): the run, the premises and the claim, each under the sentence of 01 that it states. No proof is here: it is
+-- proofs/Demand3.antt. The contracts of the calls in code cite the same `recordCall`, `timerCall`, `proposeCall` and `openingCall` of Calls.antt, so this is about
+-- what the code does. Outside lie the host (docs/INTERFACE.md lists its duties, which are the premises), the signatures and the compiler's back end. Assumes nothing.
+use Prim.Native.Nat.{ℕ, zero, suc, _+_, _≤_, _<_}
+use mathlib.Core.Bool.{Bool, true, false, cond}
+use mathlib.Core.List.{List, [], _∷_, _++_}
+use mathlib.Core.Path.{_≡_}
+use lib.Dec.{T}
+use lib.ListN.{length, take, drop}
+use Rattle.settings.specs.declared.Settings.{Settings}
+use Rattle.settings.specs.Answer.{Answer, accepts, refuses}
+use Rattle.settings.specs.Quorum.{replicas}
+use Rattle.codec.specs.Bytes.{IsBytes}
+use Rattle.codec.specs.Names.{zeroName}
+use Rattle.wire.specs.declared.Timeout.{Timeout}
+use Rattle.wire.specs.Fields.{lengthOf, senderOf, progressOf, slots}
+use Rattle.wire.specs.Encode.{voteBytes}
+use Rattle.wire.specs.Content.{Certificate, byBlock, byTimeouts, timeoutOf, certificateOf, Content, vote, commit, certificate, timeout, proposal, block, release, content}
+use Rattle.wire.specs.Fit.{IsName, IsU64, All}
+use Rattle.certificate.specs.Safe.{signs}
+use Rattle.blocks.specs.declared.Block.{Block}
+use Rattle.counters.specs.declared.Counters.{Counters}
+use Rattle.safety.specs.Lists.{In}
+use Rattle.safety.specs.Count.{count}
+use Rattle.safety.specs.Rows.{Begins, Linked}
+use Rattle.safety.specs.Run.{Machine, Read, is-vote, is-commit, is-timeout, is-release, is-other, Earlier, births, row}
+use Rattle.safety.specs.Certificates as Seen
+use Rattle.protocol.specs.Work.{Work, n}
+use Rattle.protocol.specs.Typed.{CountersTyped, BlockTyped}
+use Rattle.protocol.specs.Calls.{Replica, begin, openingCore, Outcome, recordCall, timerCall, proposeCall, openingCall}
+
+-- ---- THE RUN
+-- "a call on that box: record (any bytes), timer (any view), propose (any name), or an opening that is refused" (the refusal is a premise below)
+pub data Call : Type 0 where
+  takeRecord : List ℕ → Call
+  takeTimer : ℕ → Call
+  takePropose : List ℕ → Call
+  -- f, c, k, n, own number
+  reopen : ℕ → ℕ → ℕ → ℕ → ℕ → Call
+
+-- "Each entry names an honest box, an output region of any length and a call on that box": the region and the call; an entry is the box's number with them
+pub record Entry : Type 0 where
+  pub output : List ℕ
+  pub call : Call
+
+-- what the call leaves, on a replica's counters, memory and store
+unfoldable pub outcomeOf : Replica → Entry → Outcome
+outcomeOf r e = elim (e .call) [
+  | takeRecord b ↦ recordCall r (e .output) b
+  | takeTimer v ↦ timerCall r (e .output) v
+  | takePropose x ↦ proposeCall r (e .output) x
+  | reopen f c k m own ↦ openingCall r f c k m own
+]
+
+-- "A box's first entry gets the memory and store that its opening left, each later one what that box's entry before left."
+abbrev pub left : Outcome → Replica
+left o = record { counters = o .counters; memory = o .memory; store = o .store }
+
+abbrev pub accepted : {A : Type 0} → Answer A → Bool
+accepted (accepts a) = true
+accepted (refuses a) = false
+
+-- "Answer 0 is acceptance, returned with the number of bytes written": what an accepted call wrote; a refused one wrote nothing
+unfoldable pub written : Outcome → List ℕ
+written o = elim (o .reply) [ accepts k ↦ take k (o .output) | refuses a ↦ [] ]
+
+-- the records that stand in the bytes one after another, each as long as its length field says; the number bounds how many are cut off
+unfoldable pub cutRecords : ℕ → List ℕ → List (List ℕ)
+cutRecords zero s = []
+cutRecords (suc k) [] = []
+cutRecords (suc k) (x ∷ s) = take (lengthOf (x ∷ s)) (x ∷ s) ∷ cutRecords k (drop (lengthOf (x ∷ s)) (x ∷ s))
+
+-- "A box makes a record when one of its accepted calls writes it to the output."
+unfoldable pub makes : Replica → Entry → List (List ℕ)
+makes r e = let s = written (outcomeOf r e) in cutRecords (length s) s
+
+-- ---- WHAT AN ACCEPTED RECORD SAYS OF OTHERS: who is to have made which record
+-- "each honest signer in it, weak certificates included, earlier made the vote (kind 1) for that certificate's view and name": the signers below n
+abbrev pub votesOf : ℕ → ℕ → ℕ → List ℕ → List (ℕ × List ℕ)
+votesOf zero signers v x = []
+votesOf (suc i) signers v x = cond (signs signers i) ((i, voteBytes 1 i v x) ∷ votesOf i signers v x) (votesOf i signers v x)
+
+-- a timeout, and the signers of the certificate that it carries
+abbrev pub timeoutSays : ℕ → List ℕ → List (ℕ × List ℕ)
+timeoutSays n r = let t = timeoutOf r in (t .sender, r) ∷ votesOf n (t .carried .signers) (t .carried .view .0) (t .carried .name)
+
+-- "so too each timeout inside it with an honest sender"
+abbrev pub timeoutsSay : ℕ → List (List ℕ) → List (ℕ × List ℕ)
+timeoutsSay n [] = []
+timeoutsSay n (r ∷ l) = timeoutSays n r ++ timeoutsSay n l
+
+-- a record of kind 3 or 6, and what it reads as
+abbrev pub certificateSays : ℕ → List ℕ → Certificate → List (ℕ × List ℕ)
+certificateSays n r (byBlock v x g) = votesOf n g v x
+certificateSays n r (byTimeouts v ts) = timeoutsSay n (slots r)
+
+-- "if it is kind 1, 2, 5 or 7 with an honest sender, that box made it earlier in the list"; "All else is free: the sender of kinds 3, 6 and 8"
+abbrev pub recordSays : ℕ → List ℕ → Content → List (ℕ × List ℕ)
+recordSays n r (vote j v x) = (j, r) ∷ []
+recordSays n r (commit j v x) = (j, r) ∷ []
+recordSays n r (certificate j k) = certificateSays n r k
+recordSays n r (timeout t) = timeoutSays n r
+recordSays n r (proposal j v x y h k) = (j, r) ∷ certificateSays n (progressOf r) k
+recordSays n r (block j x y h) = []
+recordSays n r (release j v x h) = []
+
+-- a call is asked what it says only where it is accepted
+unfoldable pub says : Replica → Entry → List (ℕ × List ℕ)
+says r e = elim (e .call) [ takeRecord b ↦ recordSays (n (begin r)) b (content b) | takeTimer v ↦ [] | takePropose x ↦ [] | reopen f c k m own ↦ [] ]
+
+-- ---- BIRTHS: "A name's parent and height are those given by an accepted kind 7 or 8, or by a kind 7 that an honest box made"
+abbrev pub recordGives : Content → List Block
+recordGives (vote j v x) = []
+recordGives (commit j v x) = []
+recordGives (certificate j k) = []
+recordGives (timeout t) = []
+recordGives (proposal j v x y h k) = record { name = x; parent = y; height = record { 0 = h } } ∷ []
+recordGives (block j x y h) = record { name = x; parent = y; height = record { 0 = h } } ∷ []
+recordGives (release j v x h) = []
+
+-- no replica makes a kind 8
+abbrev pub recordsGive : List (List ℕ) → List Block
+recordsGive [] = []
+recordsGive (r ∷ l) = recordGives (content r) ++ recordsGive l
+
+abbrev pub callGives : Call → List Block
+callGives (takeRecord b) = recordGives (content b)
+callGives (takeTimer v) = []
+callGives (takePropose x) = []
+callGives (reopen f c k m own) = []
+
+unfoldable pub gives : Replica → Entry → List Block
+gives r e = cond (accepted (outcomeOf r e .reply)) (callGives (e .call) ++ recordsGive (makes r e)) []
+
+-- a replica as a step machine: its records are bytes
+abbrev pub replicaMachine : Machine
+replicaMachine = record {
+  State = Replica;
+  Call = Entry;
+  Item = List ℕ;
+  Birth = Block;
+  accepts = λ r e. accepted (outcomeOf r e .reply);
+  next = λ r e. left (outcomeOf r e);
+  makes = makes;
+  says = says;
+  gives = gives;
+}
+
+-- what the argument reads in a record; a release is "each as name and height (views may differ)"
+abbrev pub readOf : Content → Read (List ℕ)
+readOf (vote j v x) = is-vote v x
+readOf (commit j v x) = is-commit v x
+readOf (certificate j k) = is-other
+readOf (timeout t) = is-timeout (Seen.content t)
+readOf (proposal j v x y h k) = is-other
+readOf (block j x y h) = is-other
+readOf (release j v x h) = is-release x h
+
+abbrev pub reads : List ℕ → Read (List ℕ)
+reads r = readOf (content r)
+
+-- ---- THE PREMISES
+-- "each opened by one accepted opening, with the same settings and different numbers": over regions of any length and content, number i. "one never opened
+-- counts as opened and without entries"
+pub record Opened (set : Settings) (i : ℕ) (r : Replica) : Type 0 where
+  pub lent : Replica
+  pub counters : CountersTyped (lent .counters)
+  pub memory : IsBytes (lent .memory)
+  pub store : All BlockTyped (lent .store)
+  pub work : Work
+  pub opens : openingCore lent (set .f) (set .c) (set .k) (replicas set) i ≡ accepts work
+  pub leaves : r ≡ record { counters = work .counters; memory = work .memory; store = work .store }
+
+-- what is handed over has the types of the interface: any bytes, any view of 64 bits, any name of 32 bytes
+abbrev pub CallTyped : Call → Type 0
+CallTyped (takeRecord b) = IsBytes b
+CallTyped (takeTimer v) = IsU64 v
+CallTyped (takePropose x) = IsName x
+CallTyped (reopen f c k m own) = Unit {0}
+
+-- "an opening that is refused"
+abbrev pub Refused : Call → Replica → Type 0
+Refused (takeRecord b) r = Unit {0}
+Refused (takeTimer v) r = Unit {0}
+Refused (takePropose x) r = Unit {0}
+Refused (reopen f c k m own) r = accepted (openingCall r f c k m own .reply) ≡ false
+
+module _ (set : Settings) (honest : ℕ → Bool) (σ : ℕ → Replica) where
+  abbrev M : Machine
+  M = replicaMachine
+
+  -- every opening in the list is refused where it stands: s are the replicas' states
+  abbrev pub AllRefused : (ℕ → Replica) → List (ℕ × Entry) → Type 0
+  AllRefused s [] = Unit {0}
+  AllRefused s (e ∷ l) = Refused (e .1 .call) (s (e .0)) × AllRefused (Rattle.safety.specs.Run.after M s (e .0) (e .1)) l
+
+  module _ (run : List (ℕ × Entry)) where
+    -- all births of the run
+    abbrev pub born : List Block
+    born = births M σ run
+
+    pub record Premises : Type 0 where
+      -- "At least n−f boxes of the ring are honest"; "numbered 0 to n−1"
+      pub enough : replicas set ≤ set .f + count honest (replicas set)
+      pub numbers : (i : ℕ) → T (honest i) → i < replicas set
+      pub opened : (i : ℕ) → T (honest i) → Opened set i (σ i)
+      -- "Each entry names an honest box"; "The other boxes have no entries."
+      pub on-honest : All (λ (e : ℕ × Entry). T (honest (e .0))) run
+      pub typed : All (λ (e : ℕ × Entry). CallTyped (e .1 .call)) run
+      pub refused : AllRefused σ run
+      -- "For each accepted record in the list: ... that box made it earlier in the list; so too ...; and each honest signer ... earlier made the vote"
+      pub earlier : Earlier M honest σ [] run
+      -- "by premise no two of these differ"
+      pub one-birth : (a b : Block) → In a born → In b born → a .name ≡ b .name → (a .parent ≡ b .parent) × (a .height ≡ b .height)
+
+    -- ---- THE CLAIM
+    -- "An honest box's row is the kind 9 records it made, its releases, in the order written, each as name and height"
+    abbrev pub rowOf : ℕ → List (List ℕ × ℕ)
+    rowOf i = row M σ run reads i
+
+    -- x's parent is y, by a birth of the run
+    abbrev pub ParentIs : List ℕ → List ℕ → Type 0
+    ParentIs x y = (b : Block) × In b born × (b .name ≡ x) × (b .parent ≡ y)
+
+    pub record OneChain : Type 0 where
+      -- "The first has genesis as parent, every other one the release before it, and heights run 1, 2, 3 and on."
+      pub linked : (i : ℕ) → T (honest i) → Linked ParentIs 1 zeroName (rowOf i)
+      -- "Of any two honest boxes' rows the shorter is the beginning of the longer; rows of one length are the same."
+      pub shorter : (i j : ℕ) → T (honest i) → T (honest j) → length (rowOf i) ≤ length (rowOf j) → Begins (rowOf i) (rowOf j)
+      pub same : (i j : ℕ) → T (honest i) → T (honest j) → length (rowOf i) ≡ length (rowOf j) → rowOf i ≡ rowOf j
+
+-- DEMAND 3: for every settings, choice of honest replicas, opened states and list of entries
+abbrev pub Demand3 : Type 0
+Demand3 = (set : Settings) (honest : ℕ → Bool) (σ : ℕ → Replica) (run : List (ℕ × Entry)) → Premises set honest σ run → OneChain set honest σ run
