@@ -15,7 +15,8 @@ use Rattle.memory.proofs.Places.{entry-inside}
 use Rattle.memory.proofs.Bits.{signs-none}
 use Rattle.memory.proofs.Apart.{Apart, part-off, part-inner}
 
-bytes-zero : (n : ℕ) → IsBytes (replicate n 0)
+-- zero bytes
+pub bytes-zero : (n : ℕ) → IsBytes (replicate n 0)
 bytes-zero zero i = lit< tt
 bytes-zero (suc n) zero = lit< tt
 bytes-zero (suc n) (suc i) = bytes-zero n i

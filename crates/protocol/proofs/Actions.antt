@@ -1,25 +1,21 @@
 -- Sending a vote, a commit or a timeout, and releasing a block, keep a replica regular. Assumes nothing.
-use Prim.Native.Nat.{ℕ, _≤_, _<_}
+use Prim.Native.Nat.{ℕ, _≤_}
 use native.Mathlib.Omega.{arith}
-use mathlib.Core.Path.{_≡_, refl, _∙_}
+use mathlib.Core.Path.{_≡_, refl}
 use mathlib.Core.Bool.{Bool, true, false, cond}
 use mathlib.Core.List.{List}
 use lib.Dec.{lit<}
 use lib.ListN.{length}
-use Rattle.settings.specs.Quorum.{largest}
 use Rattle.codec.specs.Bytes.{IsBytes}
-use Rattle.wire.specs.declared.Vote.{Vote}
 use Rattle.wire.specs.declared.Timeout.{Timeout}
-use Rattle.wire.specs.Fields.{timeoutLength}
 use Rattle.wire.specs.Content.{timeout}
 use Rattle.wire.specs.Encode.{voteBytes, timeoutBytes, encode}
 use Rattle.wire.specs.Fit.{IsName, IsU16, IsU64, TimeoutFits, Fits}
 use Rattle.wire.proofs.Lengths.{length-timeout}
 use Rattle.wire.proofs.Tables.{bytes-encode}
-use Rattle.certificate.specs.declared.Certificate.{Certificate}
 use Rattle.certificate.specs.Rank.{highest}
 use Rattle.blocks.specs.declared.Block.{Block}
-use Rattle.blocks.specs.Store.{kept, dropped}
+use Rattle.blocks.specs.Store.{kept}
 use Rattle.blocks.proofs.Dropping.{held-within}
 use Rattle.blocks.proofs.Fewer.{kept-within, length-dropped}
 use Rattle.memory.specs.Layout.{blockCountOf, withBlockCount}
@@ -27,8 +23,8 @@ use Rattle.memory.proofs.Apart.{votes, commits, timeouts}
 use Rattle.memory.proofs.Header.{length-with-count, bytes-with-count, count-put, count-settings, count-own, count-entry}
 use Rattle.counters.specs.declared.Counters.{Counters}
 use Rattle.counters.specs.Counters.{locksOf, timing, voting, releasing}
-use Rattle.protocol.specs.Work.{Work, view, own, viewNow, blocks, withCounters, send, keepVote, keepCommit, keepTimeout, sendVote, sendCommit, ownTimeout, sendTimeout, release}
-use Rattle.protocol.specs.Typed.{BlockTyped, CertificateTyped, CountersTyped}
+use Rattle.protocol.specs.Work.{Work, view, own, blocks, withCounters, send, keepVote, keepCommit, keepTimeout, sendVote, sendCommit, ownTimeout, sendTimeout, release}
+use Rattle.protocol.specs.Typed.{BlockTyped, CountersTyped}
 use Rattle.protocol.specs.Refusals.{storeLength}
 use Rattle.protocol.proofs.Typing.{highest-typed, dropped-typed}
 use Rattle.protocol.proofs.Regular.{Regular, Still, still-trans, regular-after, keep-regular, counters-regular, send-regular}

@@ -1,16 +1,16 @@
 -- The forms of certificates: what one that comes in certifies, one with another sender, one that is formed of what is kept. Assumes nothing.
-use Prim.Native.Nat.{ℕ, zero, suc, _+_, _*_, _/_, _^_, _≤_, _<_}
+use Prim.Native.Nat.{ℕ, zero, suc, _+_, _*_, _/_, _≤_, _<_}
 use native.Mathlib.Nat.{lt-of-lt-of-le, pow-le-pow-right, mul-suc}
 use native.Mathlib.Omega.{arith}
-use mathlib.Core.Path.{_≡_, refl, sym, ap, _∙_}
+use mathlib.Core.Path.{_≡_, refl, ap, _∙_}
 use mathlib.Core.Bool.{Bool, true, false, cond}
-use mathlib.Core.Logic.{_⊎_, inl, inr, ⊎-elim}
+use mathlib.Core.Logic.{inl, inr, ⊎-elim}
 use mathlib.Core.List.{List, [], _∷_, _++_, map, append-assoc}
 use lib.Dec.{eqb, lit<}
 use lib.ListN.{length, drop, length-append}
 use Rattle.settings.specs.declared.Settings.{Settings}
 use Rattle.settings.specs.Quorum.{largest, lastView, replicas}
-use Rattle.codec.specs.Bytes.{IsBytes, part, patch, leNat, leBytes}
+use Rattle.codec.specs.Bytes.{IsBytes, part, leNat, leBytes}
 use Rattle.codec.specs.Names.{nameLength}
 use Rattle.codec.proofs.Laws.{part-before, part-behind, length-patch, bytes-patch}
 use Rattle.codec.proofs.Le.{leNat-part, length-leBytes}

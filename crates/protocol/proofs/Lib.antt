@@ -4,6 +4,12 @@ pub mod Actions
 pub mod Forms
 pub mod Rules
 pub mod Opened
+pub mod Written
+pub mod Output
+pub mod Proposals
+pub mod Events
+pub mod OneCall
+pub mod Regions
 pub mod FormedRead
 pub mod Advance
 pub mod Turning

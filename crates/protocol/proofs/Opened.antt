@@ -1,19 +1,18 @@
 -- What an accepted opening leaves: the settings and own number given, no held block, the genesis certificate as entry, empty rows; it is regular.
 -- Assumes nothing.
-use Prim.Native.Nat.{ℕ, suc, _+_, _^_, _≤_, _<_}
+use Prim.Native.Nat.{ℕ, _+_, _^_, _≤_, _<_}
 use native.Mathlib.Omega.{arith}
 use mathlib.Core.Path.{_≡_, refl, sym, ap, _∙_}
-use mathlib.Core.Bool.{Bool, true, false, not}
-use mathlib.Core.Logic.{inl}
-use mathlib.Core.List.{List, [], _∷_, _++_}
+use mathlib.Core.Bool.{true, false}
+use mathlib.Core.List.{List, [], _++_}
 use borrow.Author.Tests.{ltb-false, leb-false, eqb-true, not-false}
-use lib.Dec.{eqb, ltb, leb, lit<, lit≤}
+use lib.Dec.{lit<, lit≤}
 use lib.ListN.{length, length-append}
 use Rattle.settings.specs.declared.Settings.{Settings}
 use Rattle.settings.specs.Quorum.{largest, replicas}
 use Rattle.settings.specs.Opening.{inBound, openingRules}
-use Rattle.settings.specs.Answer.{accepts, _⇒_}
-use Rattle.codec.specs.Bytes.{IsBytes, part, patch, leNat, leBytes}
+use Rattle.settings.specs.Answer.{accepts}
+use Rattle.codec.specs.Bytes.{IsBytes, patch, leNat, leBytes}
 use Rattle.codec.specs.Names.{zeroName}
 use Rattle.codec.proofs.Laws.{part-same, part-before, length-patch, patch-append, bytes-patch}
 use Rattle.codec.proofs.Le.{leNat-leBytes, length-leBytes}
@@ -24,7 +23,7 @@ use Rattle.wire.proofs.Facts.{off-judge}
 use Rattle.wire.proofs.Lengths.{length-blockCertificate}
 use Rattle.wire.proofs.Rows.{bytes-leBytes}
 use Rattle.blocks.specs.declared.Block.{Block}
-use Rattle.memory.specs.Layout.{memoryLength, entryRoom, settingsOf, ownOf, blockCountOf, entryLengthOf, entryOf, withBlockCount, withEntry}
+use Rattle.memory.specs.Layout.{memoryLength, entryRoom, settingsOf, ownOf, blockCountOf, entryOf, withBlockCount, withEntry}
 use Rattle.memory.specs.Kept.{has}
 use Rattle.memory.proofs.Apart.{Table, rowOf}
 use Rattle.memory.proofs.Header.{SameHeader, same-header, length-with-count, bytes-with-count, count-put, count-settings, count-own, length-with-entry, bytes-with-entry, entry-settings, entry-own, entry-block-count, entry-length-put, entry-put}

@@ -1,19 +1,18 @@
 -- A replica at work whose regions pass refusal 2 (`Regular`), and each action keeps it so. Assumes nothing.
-use Prim.Native.Nat.{ℕ, suc, _+_, _*_, _≤_, _<_}
+use Prim.Native.Nat.{ℕ, _+_, _*_, _≤_, _<_}
 use native.Mathlib.Omega.{arith}
-use mathlib.Core.Path.{_≡_, refl, sym, ap, _∙_, subst}
+use mathlib.Core.Path.{_≡_, refl, _∙_}
 use mathlib.Core.Bool.{Bool, true, false, cond, _&&_}
 use mathlib.Core.Logic.{_⊎_, inl, inr}
-use mathlib.Core.List.{List, map}
+use mathlib.Core.List.{List}
 use borrow.Author.Tests.{leb-true, ltb-true, eqb-true, le-leb, lt-ltb, eq-eqb}
-use lib.Dec.{eqb, leb, ltb, lit<}
-use lib.ListN.{length, take, drop, set, length-set, length-take, length-drop}
+use lib.Dec.{eqb, leb}
+use lib.ListN.{length, drop, set, length-set, length-take, length-drop}
 use Rattle.settings.specs.Quorum.{largest, lastView}
 use Rattle.settings.specs.Opening.{inBound}
 use Rattle.codec.specs.Bytes.{IsBytes, part}
 use Rattle.codec.proofs.Order.{and-true}
 use Rattle.wire.specs.Fields.{kindOf, countOf, viewOf, blockCertificateLength, timeoutsHead, timeoutLength}
-use Rattle.wire.specs.Fit.{IsName, IsU64, All}
 use Rattle.certificate.specs.declared.Certificate.{Certificate}
 use Rattle.blocks.specs.declared.Block.{Block}
 use Rattle.memory.specs.Layout.{memoryLength, entryRoom, entryPlace, blockCountOf, entryOf, entryLengthOf, settingsOf, ownOf, withBlockCount, withEntry}
@@ -25,7 +24,7 @@ use Rattle.memory.proofs.Entering.{length-entered, bytes-entered, entered-head}
 use Rattle.memory.proofs.Header.{SameHeader, same-header, keep-head, length-with-count, bytes-with-count, count-put, count-settings, count-own, count-entry, length-with-entry, bytes-with-entry, entry-settings, entry-own, entry-block-count, entry-put}
 use Rattle.counters.specs.declared.Counters.{Counters}
 use Rattle.counters.specs.Counters.{adopting, withLocks, entering}
-use Rattle.protocol.specs.Work.{Work, view, settings, n, own, viewNow, blocks, heldBlock, withCounters, withMemory, send, adopt, enterBy, hold}
+use Rattle.protocol.specs.Work.{Work, view, settings, n, own, viewNow, heldBlock, withCounters, withMemory, send, adopt, enterBy, hold}
 use Rattle.protocol.specs.Typed.{CertificateTyped, BlockTyped, CountersTyped, Typed}
 use Rattle.protocol.specs.Refusals.{storeLength, regular, entryRegular}
 use Rattle.protocol.proofs.Typing.{all-set, adopting-typed}

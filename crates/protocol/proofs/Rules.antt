@@ -1,26 +1,25 @@
 -- Progress, the rules A to D and their run keep a replica regular. Assumes nothing.
-use Prim.Native.Nat.{ℕ, zero, suc, _+_, _-_, _≤_, _<_}
+use Prim.Native.Nat.{ℕ, zero, suc, _+_, _≤_, _<_}
 use native.Mathlib.Omega.{arith}
 use mathlib.Core.Path.{_≡_, refl}
 use mathlib.Core.Bool.{Bool, true, false, cond, _&&_}
 use mathlib.Core.List.{List}
 use lib.Dec.{leb, ltb}
 use lib.ListN.{length}
-use Rattle.settings.specs.Quorum.{largest, lastView, timeoutQuorum}
+use Rattle.settings.specs.Quorum.{lastView, timeoutQuorum}
+use Rattle.codec.specs.Bytes.{IsBytes}
 use Rattle.codec.proofs.Order.{and-true}
 use Rattle.wire.specs.Fields.{kindOf, blockCertificateLength}
 use Rattle.wire.specs.Content.{Certificate, byBlock, byTimeouts, certificateOf}
 use Rattle.wire.specs.Fit.{CertificateFits}
 use Rattle.certificate.specs.Rank.{blockCertificate, outranks}
 use Rattle.certificate.specs.Safe.{safeCertificate}
-use Rattle.blocks.specs.declared.Block.{Block}
 use Rattle.memory.specs.Layout.{blockCountOf, timeoutRow, voteRow}
-use Rattle.memory.specs.Kept.{keptCount, tally}
-use Rattle.memory.specs.Window.{lowest, highest}
+use Rattle.memory.specs.Kept.{keptCount}
+use Rattle.memory.specs.Window.{lowest}
 use Rattle.memory.specs.Decided.{noChoice, nextDecided}
-use Rattle.memory.specs.Formed.{formed}
 use Rattle.counters.specs.Counters.{locksOf}
-use Rattle.protocol.specs.Work.{Work, settings, n, own, viewNow, timed, tip, blocks, heldBlock, send, adopt, enterBy, sendCommit, sendTimeout, release}
+use Rattle.protocol.specs.Work.{Work, settings, n, own, viewNow, timed, tip, blocks, heldBlock, send, adopt, enterBy}
 use Rattle.protocol.specs.Typed.{BlockTyped}
 use Rattle.protocol.specs.Refusals.{viewOfProgress}
 use Rattle.protocol.specs.Events.{withSender, commitAfter, progress}
@@ -45,7 +44,7 @@ commit-after (byBlock v x g) W f R = next-if W _ _ (ltb (timed W) v) (λ e. comm
 commit-after (byTimeouts v ts) W f R = (R, still-refl W)
 
 -- the safe certificate of a record of the form is adopted
-pub adopts-regular : (W : Work) (r : List ℕ) → Rattle.codec.specs.Bytes.IsBytes r → EntryForm (n W) r → Regular W → Regular (adopt W (safeCertificate (settings W) (certificateOf r)))
+pub adopts-regular : (W : Work) (r : List ℕ) → IsBytes r → EntryForm (n W) r → Regular W → Regular (adopt W (safeCertificate (settings W) (certificateOf r)))
 adopts-regular W r b f R = adopt-regular W _ (fits-typed (settings W) (certificateOf r) (omega (arith, R .few)) (form-fits (n W) r b f)) R
 
 pub progress-regular : (W : Work) (r : List ℕ) → ProgressForm (n W) r → Regular W → Regular (progress r W) × Still W (progress r W)

@@ -2,38 +2,35 @@
 use mathlib.Core.Path.{_≡_, refl}
 use mathlib.Core.Bool.{Bool, true, false, cond}
 use mathlib.Core.List.{List, [], _∷_, _++_, map}
-use Prim.Native.Nat.{ℕ, zero, suc, _+_, _*_, _^_, _≤_, _<_}
+use Prim.Native.Nat.{ℕ, zero, suc, _+_, _*_, _≤_}
 use native.Mathlib.Nat.{lt-of-lt-of-le, pow-le-pow-right}
 use native.Mathlib.Omega.{arith}
 use lib.Dec.{lit<}
-use lib.ListN.{length, take, drop, set, replicate, length-drop}
+use lib.ListN.{length, take, drop, set, length-drop}
 use Rattle.settings.specs.declared.Settings.{Settings}
-use Rattle.settings.specs.declared.View.{View}
 use Rattle.settings.specs.Quorum.{replicas}
 use Rattle.codec.specs.Bytes.{IsBytes, part}
 use Rattle.codec.specs.Names.{sameBytes, zeroName, nameLength}
 use Rattle.codec.proofs.Laws.{length-part}
 use Rattle.codec.proofs.Le.{leNat-part, bytes-drop}
 use Rattle.wire.specs.declared.Timeout.{Timeout}
-use Rattle.wire.specs.declared.Vote.{Vote}
-use Rattle.wire.specs.Fields.{kindOf, viewOf, nameOf, signersOf, countOf, blockCertificateLength, timeoutLength, timeoutsHead, slots}
-use Rattle.wire.specs.Content.{timeoutOf, byBlock, byTimeouts, certificateOf}
-use Rattle.wire.specs.Fit.{IsName, IsU64, TimeoutFits, All}
+use Rattle.wire.specs.Fields.{countOf, timeoutLength, timeoutsHead, slots}
+use Rattle.wire.specs.Content.{timeoutOf}
+use Rattle.wire.specs.Fit.{IsName, TimeoutFits, All}
 use Rattle.wire.proofs.Rows.{bytes-part}
 use Rattle.wire.proofs.Slots.{all-map, all-impl, FullLength, cut-whole}
 use Rattle.certificate.specs.declared.Certificate.{Certificate}
-use Rattle.certificate.specs.Rank.{adopted, highest}
-use Rattle.certificate.specs.Rank.{carriedCertificate}
-use Rattle.certificate.specs.Order.{carriedIn, Backed, builtOf}
-use Rattle.certificate.specs.Safe.{safeOfTimeouts, safeCertificate}
+use Rattle.certificate.specs.Rank.{carriedCertificate, highest}
+use Rattle.certificate.specs.Order.{carriedIn, builtOf, kept as keptOf}
+use Rattle.certificate.specs.Safe.{safeOfTimeouts}
 use Rattle.certificate.proofs.Adopting.{adopted-has, highest-has}
 use Rattle.certificate.proofs.Backing.{backing-lt}
 use Rattle.certificate.proofs.Chosen.{chosen-has}
 use Rattle.blocks.specs.declared.Block.{Block}
 use Rattle.blocks.specs.Store.{genesis, found, find, held, descends, only, kept, dropped}
-use Rattle.counters.specs.declared.Signed.{Signed}
+use Rattle.memory.proofs.Clearing.{bytes-zero}
 use Rattle.counters.specs.declared.Counters.{Counters}
-use Rattle.counters.specs.Counters.{locksOf, signedOf, withLocks, adopting}
+use Rattle.counters.specs.Counters.{certificateOf, locksOf, signedOf, withLocks, adopting}
 use Rattle.protocol.specs.Typed.{SignedTyped, CertificateTyped, BlockTyped, CountersTyped}
 
 -- ---- lists of which every element is as its type says
@@ -62,11 +59,6 @@ module _ {A : Type 0} (P : A → Type 0) where
   all-set (x ∷ l) (suc i) a p q = (p .0, all-set l i a (p .1) q)
 
 -- ---- names
-bytes-zero : (n : ℕ) → IsBytes (replicate n 0)
-bytes-zero zero i = lit< tt
-bytes-zero (suc n) zero = lit< tt
-bytes-zero (suc n) (suc i) = bytes-zero n i
-
 pub zero-is-name : IsName zeroName
 zero-is-name = record { size = refl; bytes = bytes-zero nameLength }
 
@@ -151,8 +143,8 @@ dropped-typed tip k l a =
     all-append BlockTyped _ _ (only-typed (descends tip (take k l)) (take k l) (all-take BlockTyped k l a)) (all-drop BlockTyped (length (kept tip (take k l))) l a)
 
 -- ---- counters
-locks-typed : (c : Counters) → CountersTyped c → (b : Bool) → CertificateTyped (Rattle.certificate.specs.Order.kept b (locksOf c))
-unfolding locksOf Rattle.counters.specs.Counters.certificateOf
+locks-typed : (c : Counters) → CountersTyped c → (b : Bool) → CertificateTyped (keptOf b (locksOf c))
+unfolding locksOf certificateOf
 locks-typed c t true = record { view = t .lock .view; name = t .lock .name; signers = t .lock .signers }
 locks-typed c t false = record { view = t .weak .view; name = t .weak .name; signers = t .weak .signers }
 

@@ -5,4 +5,5 @@ pub mod Events
 pub mod Rules
 pub mod Applies
 pub mod Calls
+pub mod OneCall
 pub mod OneChain

@@ -16,7 +16,7 @@ use Rattle.wire.specs.declared.Timeout.{Timeout}
 use Rattle.wire.specs.Fields.{lengthOf, senderOf, progressOf, slots}
 use Rattle.wire.specs.Encode.{voteBytes}
 use Rattle.wire.specs.Content.{Certificate, byBlock, byTimeouts, timeoutOf, certificateOf, Content, vote, commit, certificate, timeout, proposal, block, release, content}
-use Rattle.wire.specs.Fit.{IsName, IsU64, All}
+use Rattle.wire.specs.Fit.{All}
 use Rattle.certificate.specs.Safe.{signs}
 use Rattle.blocks.specs.declared.Block.{Block}
 use Rattle.counters.specs.declared.Counters.{Counters}
@@ -27,34 +27,25 @@ use Rattle.safety.specs.Run.{Machine, Read, is-vote, is-commit, is-timeout, is-
 use Rattle.safety.specs.Certificates as Seen
 use Rattle.protocol.specs.Work.{Work, n}
 use Rattle.protocol.specs.Typed.{CountersTyped, BlockTyped}
-use Rattle.protocol.specs.Calls.{Replica, begin, openingCore, Outcome, recordCall, timerCall, proposeCall, openingCall}
+use Rattle.protocol.specs.Calls.{Replica, begin, openingCore, Outcome, openingCall}
+use Rattle.protocol.specs.OneCall.{Call, receive, timer, propose, CallTyped, callOn, left}
 
 -- ---- THE RUN
 -- "a call on that box: record (any bytes), timer (any view), propose (any name), or an opening that is refused" (the refusal is a premise below)
-pub data Call : Type 0 where
-  takeRecord : List ℕ → Call
-  takeTimer : ℕ → Call
-  takePropose : List ℕ → Call
+pub data Step : Type 0 where
+  calls : Call → Step
   -- f, c, k, n, own number
-  reopen : ℕ → ℕ → ℕ → ℕ → ℕ → Call
+  reopens : ℕ → ℕ → ℕ → ℕ → ℕ → Step
 
 -- "Each entry names an honest box, an output region of any length and a call on that box": the region and the call; an entry is the box's number with them
 pub record Entry : Type 0 where
   pub output : List ℕ
-  pub call : Call
+  pub step : Step
 
--- what the call leaves, on a replica's counters, memory and store
+-- what the call leaves, on a replica's counters, memory and store. "A box's first entry gets the memory and store that its opening left, each later
+-- one what that box's entry before left": `left` of it
 unfoldable pub outcomeOf : Replica → Entry → Outcome
-outcomeOf r e = elim (e .call) [
-  | takeRecord b ↦ recordCall r (e .output) b
-  | takeTimer v ↦ timerCall r (e .output) v
-  | takePropose x ↦ proposeCall r (e .output) x
-  | reopen f c k m own ↦ openingCall r f c k m own
-]
-
--- "A box's first entry gets the memory and store that its opening left, each later one what that box's entry before left."
-abbrev pub left : Outcome → Replica
-left o = record { counters = o .counters; memory = o .memory; store = o .store }
+outcomeOf r e = elim (e .step) [ calls c ↦ callOn r (e .output) c | reopens f c k m own ↦ openingCall r f c k m own ]
 
 abbrev pub accepted : {A : Type 0} → Answer A → Bool
 accepted (accepts a) = true
@@ -104,9 +95,15 @@ recordSays n r (proposal j v x y h k) = (j, r) ∷ certificateSays n (progressOf
 recordSays n r (block j x y h) = []
 recordSays n r (release j v x h) = []
 
+abbrev pub stepSays : ℕ → Step → List (ℕ × List ℕ)
+stepSays n (calls (receive b)) = recordSays n b (content b)
+stepSays n (calls (timer v)) = []
+stepSays n (calls (propose x)) = []
+stepSays n (reopens f c k m own) = []
+
 -- a call is asked what it says only where it is accepted
 unfoldable pub says : Replica → Entry → List (ℕ × List ℕ)
-says r e = elim (e .call) [ takeRecord b ↦ recordSays (n (begin r)) b (content b) | takeTimer v ↦ [] | takePropose x ↦ [] | reopen f c k m own ↦ [] ]
+says r e = stepSays (n (begin r)) (e .step)
 
 -- ---- BIRTHS: "A name's parent and height are those given by an accepted kind 7 or 8, or by a kind 7 that an honest box made"
 abbrev pub recordGives : Content → List Block
@@ -123,14 +120,14 @@ abbrev pub recordsGive : List (List ℕ) → List Block
 recordsGive [] = []
 recordsGive (r ∷ l) = recordGives (content r) ++ recordsGive l
 
-abbrev pub callGives : Call → List Block
-callGives (takeRecord b) = recordGives (content b)
-callGives (takeTimer v) = []
-callGives (takePropose x) = []
-callGives (reopen f c k m own) = []
+abbrev pub stepGives : Step → List Block
+stepGives (calls (receive b)) = recordGives (content b)
+stepGives (calls (timer v)) = []
+stepGives (calls (propose x)) = []
+stepGives (reopens f c k m own) = []
 
 unfoldable pub gives : Replica → Entry → List Block
-gives r e = cond (accepted (outcomeOf r e .reply)) (callGives (e .call) ++ recordsGive (makes r e)) []
+gives r e = cond (accepted (outcomeOf r e .reply)) (stepGives (e .step) ++ recordsGive (makes r e)) []
 
 -- a replica as a step machine: its records are bytes
 abbrev pub replicaMachine : Machine
@@ -172,18 +169,14 @@ pub record Opened (set : Settings) (i : ℕ) (r : Replica) : Type 0 where
   pub leaves : r ≡ record { counters = work .counters; memory = work .memory; store = work .store }
 
 -- what is handed over has the types of the interface: any bytes, any view of 64 bits, any name of 32 bytes
-abbrev pub CallTyped : Call → Type 0
-CallTyped (takeRecord b) = IsBytes b
-CallTyped (takeTimer v) = IsU64 v
-CallTyped (takePropose x) = IsName x
-CallTyped (reopen f c k m own) = Unit {0}
+abbrev pub StepTyped : Step → Type 0
+StepTyped (calls c) = CallTyped c
+StepTyped (reopens f c k m own) = Unit {0}
 
 -- "an opening that is refused"
-abbrev pub Refused : Call → Replica → Type 0
-Refused (takeRecord b) r = Unit {0}
-Refused (takeTimer v) r = Unit {0}
-Refused (takePropose x) r = Unit {0}
-Refused (reopen f c k m own) r = accepted (openingCall r f c k m own .reply) ≡ false
+abbrev pub Refused : Step → Replica → Type 0
+Refused (calls c) r = Unit {0}
+Refused (reopens f c k m own) r = accepted (openingCall r f c k m own .reply) ≡ false
 
 module _ (set : Settings) (honest : ℕ → Bool) (σ : ℕ → Replica) where
   abbrev M : Machine
@@ -192,7 +185,7 @@ module _ (set : Settings) (honest : ℕ → Bool) (σ : ℕ → Replica) where
   -- every opening in the list is refused where it stands: s are the replicas' states
   abbrev pub AllRefused : (ℕ → Replica) → List (ℕ × Entry) → Type 0
   AllRefused s [] = Unit {0}
-  AllRefused s (e ∷ l) = Refused (e .1 .call) (s (e .0)) × AllRefused (Rattle.safety.specs.Run.after M s (e .0) (e .1)) l
+  AllRefused s (e ∷ l) = Refused (e .1 .step) (s (e .0)) × AllRefused (Rattle.safety.specs.Run.after M s (e .0) (e .1)) l
 
   module _ (run : List (ℕ × Entry)) where
     -- all births of the run
@@ -206,7 +199,7 @@ module _ (set : Settings) (honest : ℕ → Bool) (σ : ℕ → Replica) where
       pub opened : (i : ℕ) → T (honest i) → Opened set i (σ i)
       -- "Each entry names an honest box"; "The other boxes have no entries."
       pub on-honest : All (λ (e : ℕ × Entry). T (honest (e .0))) run
-      pub typed : All (λ (e : ℕ × Entry). CallTyped (e .1 .call)) run
+      pub typed : All (λ (e : ℕ × Entry). StepTyped (e .1 .step)) run
       pub refused : AllRefused σ run
       -- "For each accepted record in the list: ... that box made it earlier in the list; so too ...; and each honest signer ... earlier made the vote"
       pub earlier : Earlier M honest σ [] run
