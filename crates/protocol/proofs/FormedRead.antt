@@ -9,11 +9,11 @@ use Rattle.codec.specs.Bytes.{part, leNat, leBytes}
 use Rattle.codec.proofs.Laws.{length-patch}
 use Rattle.codec.proofs.Le.{leNat-leBytes}
 use Rattle.wire.specs.Fields.{kindOf, viewOf, slots, timeoutLength}
-use Rattle.wire.specs.Content.{timeoutOf, Certificate, byBlock, byTimeouts, certificateOf, Content, vote, commit, certificate, timeout, proposal, block, release, content}
-use Rattle.wire.specs.Encode.{headerBytes, timeoutsBytes, blockCertificateBytes, certificateBytes, encode}
-use Rattle.wire.specs.Fit.{IsName, CertificateFits, Fits}
+use Rattle.wire.specs.Content.{timeoutOf, byBlock, byTimeouts, certificateOf}
+use Rattle.wire.specs.Encode.{headerBytes, timeoutsBytes, blockCertificateBytes, certificateBytes}
+use Rattle.wire.specs.Fit.{IsName, CertificateFits}
 use Rattle.wire.proofs.Lengths.{length-timeouts, length-blockCertificate}
-use Rattle.wire.proofs.ReadBack.{read-written}
+use Rattle.wire.proofs.Contents.{certificate-back}
 use Rattle.memory.specs.Layout.{entryRoom, memoryLength, timeoutRow}
 use Rattle.memory.specs.Kept.{gathered}
 use Rattle.memory.specs.Formed.{formed}
@@ -53,28 +53,15 @@ module _ (m : List ℕ) (view n own : ℕ) where
       omega (arith, length-timeouts own view row)
 
 -- ---- a block certificate
-theCertificate : Content → Certificate
-theCertificate (vote s v x) = byBlock 0 [] 0
-theCertificate (commit s v x) = byBlock 0 [] 0
-theCertificate (certificate s k) = k
-theCertificate (timeout t) = byBlock 0 [] 0
-theCertificate (proposal s v x y h k) = k
-theCertificate (block s x y h) = byBlock 0 [] 0
-theCertificate (release s v x h) = byBlock 0 [] 0
-
 module _ (sender view : ℕ) (x : List ℕ) (signers : ℕ) where
-  block-kind : kindOf (blockCertificateBytes sender view x signers) ≡ 3
-  unfolding blockCertificateBytes headerBytes leBytes part leNat
-  block-kind = refl
+  pub block-view : view < lastView → viewOf (blockCertificateBytes sender view x signers) ≡ view
+  unfolding blockCertificateBytes headerBytes leBytes part
+  block-view h = let e : part (blockCertificateBytes sender view x signers) 8 8 ≡ leBytes 8 view = refl in ap leNat e ∙ leNat-leBytes 8 view (omega arith)
 
   -- the one that rule C forms is read as what it is formed of
   pub block-read : sender < 2 ^ 16 → view < lastView → IsName x → signers < 2 ^ 64 → certificateOf (blockCertificateBytes sender view x signers) ≡ byBlock view x signers
-  unfolding encode certificateBytes Fits CertificateFits content theCertificate
-  block-read a b c d =
-      let r = blockCertificateBytes sender view x signers in
-      let whole : content r ≡ certificate sender (byBlock view x signers) = read-written (certificate sender (byBlock view x signers)) (a, (omega arith, c, d)) in
-      let this : certificateOf r ≡ theCertificate (content r) = rw block-kind in
-      this ∙ ap theCertificate whole
+  unfolding certificateBytes CertificateFits
+  block-read a b c d = certificate-back sender (byBlock view x signers) a (omega arith, c, d)
 
   pub block-fits : IsName x → length (blockCertificateBytes sender view x signers) ≤ entryRoom
   block-fits c = omega (arith, length-blockCertificate x c sender view signers)

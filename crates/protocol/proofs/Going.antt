@@ -78,20 +78,7 @@ Shown w i r = ShownAs w i (content r)
 pub shown-as : (w : World) (i : ℕ) (q : Content) → Fits q → Shown w i (encode q) → ShownAs w i q
 shown-as w i q f s = subst (ShownAs w i) (read-written q f) s
 
-module _ (set : Settings) (w : World) (i : ℕ) (l₀ : List (List ℕ)) where
-  -- THE INVARIANT in the middle of a call, before which the records l₀ were made
-  pub record Sound (W : Work) : Type 0 where
-    pub made : List (List ℕ)
-    pub out-is : W .out ≡ joined made
-    pub real : All (Shown w i) made → Real set w i (viewNow W) W (l₀ ++ made)
-
-  abbrev pub Seen : {W : Work} → Sound W → Type 0
-  Seen S = All (Shown w i) (S .made)
-
-  -- one record more
-  pub grown : (P : List (List ℕ) → Type 0) (l : List (List ℕ)) (r : List ℕ) → P ((l₀ ++ l) ++ (r ∷ [])) → P (l₀ ++ (l ++ (r ∷ [])))
-  grown P l r p = subst P (append-assoc l₀ l (r ∷ [])) p
-
+module _ (set : Settings) (w : World) where
   -- ---- a progress certificate that passes the tests, or is formed: r is its record, from replica `from`
   pub record Taken (r : List ℕ) : Type 0 where
     pub from : ℕ
@@ -110,6 +97,20 @@ module _ (set : Settings) (w : World) (i : ℕ) (l₀ : List (List ℕ)) where
     pub backed : Progress (R set w) u (cert (safeCertificate set (certificateOf r)))
     pub safe-le : safeCertificate set (certificateOf r) .view .0 ≤ u
 
+module _ (set : Settings) (w : World) (i : ℕ) (l₀ : List (List ℕ)) where
+  -- THE INVARIANT in the middle of a call, before which the records l₀ were made
+  pub record Sound (W : Work) : Type 0 where
+    pub made : List (List ℕ)
+    pub out-is : W .out ≡ joined made
+    pub real : All (Shown w i) made → Real set w i (viewNow W) W (l₀ ++ made)
+
+  abbrev pub Seen : {W : Work} → Sound W → Type 0
+  Seen S = All (Shown w i) (S .made)
+
+  -- one record more
+  pub grown : (P : List (List ℕ) → Type 0) (l : List (List ℕ)) (r : List ℕ) → P ((l₀ ++ l) ++ (r ∷ [])) → P (l₀ ++ (l ++ (r ∷ [])))
+  grown P l r p = subst P (append-assoc l₀ l (r ∷ [])) p
+
   -- what an event leads to, from W: it adopts c, keeps store and tip, and, if it is of view u ≥ view, enters u + 1
   pub record Went (u : ℕ) (c : Cert Name) (W : Work) (S : Sound W) (W′ : Work) : Type 0 where
     pub sound : Sound W′
@@ -120,7 +121,7 @@ module _ (set : Settings) (w : World) (i : ℕ) (l₀ : List (List ℕ)) where
     pub views : viewNow W ≤ u → viewNow W′ ≡ suc u
     pub rises : viewNow W ≤ viewNow W′
 
-  module _ (r : List ℕ) (W : Work) (S : Sound W) (u : ℕ) (F : Seen S → TakenAt u r) where
+  module _ (r : List ℕ) (W : Work) (S : Sound W) (u : ℕ) (F : Seen S → TakenAt set w u r) where
     abbrev k : Certificate
     k = certificateOf r
 
@@ -305,7 +306,7 @@ module _ (set : Settings) (w : World) (i : ℕ) (l₀ : List (List ℕ)) where
     }
 
   -- WHAT A PROGRESS CERTIFICATE DOES
-  module _ (r : List ℕ) (W : Work) (S : Sound W) (F : Seen S → TakenAt (viewOfProgress W (certificateOf r)) r) where
+  module _ (r : List ℕ) (W : Work) (S : Sound W) (F : Seen S → TakenAt set w (viewOfProgress W (certificateOf r)) r) where
     abbrev vᵣ : ℕ
     vᵣ = viewOfProgress W (certificateOf r)
 

@@ -29,3 +29,5 @@ pub mod Steps
 pub mod Acts
 pub mod Storing
 pub mod Going
+pub mod Formed
+pub mod Turned

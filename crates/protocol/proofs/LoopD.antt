@@ -143,7 +143,7 @@ module _ (w : ℕ) (b : Block) (W : Work) where
   fewer-D : Regular W → In b (blocks W) → length (blocks (release w b W)) < length (blocks W)
   fewer-D R i = omega (arith, kept-fewer b (blocks W) i, ap length (blocks-D R i))
 
-applied-in : (w : ℕ) (x : List ℕ) (W : Work) → AppliesD w x W → In (heldBlock W x .block) (blocks W)
+pub applied-in : (w : ℕ) (x : List ℕ) (W : Work) → AppliesD w x W → In (heldBlock W x .block) (blocks W)
 applied-in w x W a = held-entry (tip W) (blocks W) x (a .isHeld) (a .leadsDown)
 
 -- where no block is held, D applies nowhere

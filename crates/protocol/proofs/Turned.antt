@@ -1,0 +1,187 @@
+-- One turn of the rules keeps the invariant, and so does their run. Assumes nothing.
+use Prim.Native.Nat.{ℕ, suc, _+_, _^_, _≤_, _<_}
+use mathlib.Core.Bool.{Bool, true, false}
+use mathlib.Core.List.{List, [], _∷_, _++_, map, append-assoc}
+use mathlib.Core.Logic.{_⊎_, inl, inr}
+use mathlib.Core.Path.{_≡_, refl, sym, ap, subst, _∙_}
+use native.Mathlib.Omega.{arith}
+use Rattle.settings.specs.declared.Settings.{Settings}
+use Rattle.settings.specs.Quorum.{lastView, largest, replicas, timeoutQuorum, blockQuorum, fastQuorum, slowQuorum}
+use Rattle.codec.specs.Names.{sameBytes}
+use Rattle.codec.proofs.Order.{same-eq}
+use Rattle.wire.specs.Encode.{timeoutBytes, blockCertificateBytes, encode, joined, releaseBytes}
+use Rattle.wire.specs.Content.{certificateOf, timeout}
+use Rattle.wire.specs.Fit.{All, Fits}
+use Rattle.blocks.specs.declared.Block.{Block}
+use Rattle.blocks.specs.Store.{held, ancestry, releases}
+use Rattle.blocks.proofs.Linked.{In, held-in}
+use Rattle.memory.specs.Layout.{voteRow, commitRow, timeoutRow}
+use Rattle.memory.specs.Kept.{keptCount, tally}
+use Rattle.memory.specs.Formed.{formed}
+use Rattle.memory.proofs.Apart.{votes, commits, timeouts, row-fits}
+use Rattle.memory.proofs.Entering.{Windowed}
+use Rattle.counters.specs.Counters.{timing, releasing}
+use Rattle.safety.specs.Certificates as Safety
+use Rattle.safety.specs.Cluster.{HighVoted, Direct}
+use Rattle.protocol.specs.Work.{Work, settings, n, own, viewNow, timed, tip, blocks, heldBlock, keepTimeout, ownTimeout, sendTimeout, release}
+use Rattle.protocol.specs.Refusals.{viewOfProgress}
+use Rattle.protocol.specs.Events.{progress}
+use Rattle.protocol.specs.Rules.{settle}
+use Rattle.protocol.specs.Applies.{AppliesA, AppliesB, AppliesC, AppliesD, runA, runB, runC, runD, signersFor, Turn, byA, byB, byC, byD, Turns, rest, turn}
+use Rattle.protocol.proofs.Regular.{Regular}
+use Rattle.protocol.proofs.Actions.{own-timeout-fits}
+use Rattle.protocol.proofs.Forms.{form-view}
+use Rattle.protocol.proofs.FormedRead.{formed-read, block-view}
+use Rattle.protocol.proofs.Advance.{timeout-window, ballot-window}
+use Rattle.protocol.proofs.Backed.{backed-entry, entry-name}
+use Rattle.protocol.proofs.LoopD.{applied-in}
+use Rattle.protocol.proofs.Loop.{settle-is-the-loop}
+use Rattle.protocol.proofs.World.{Name, World, R, size, Real}
+use Rattle.protocol.proofs.Records.{joined-more, joined-append}
+use Rattle.protocol.proofs.Steps.{size-is, few}
+use Rattle.protocol.proofs.Acts.{timed-real}
+use Rattle.protocol.proofs.Storing.{written, release-real}
+use Rattle.protocol.proofs.Going.{all-left, all-right, all-head, Shown, shown-as, Sound, Seen, TakenAt, progress-went}
+use Rattle.protocol.proofs.Formed.{formed-taken, block-taken, direct}
+
+held-tip : (tip : Block) (store : List Block) (x : Name) → sameBytes (tip .name) x ≡ true → held tip store x .block .name ≡ x
+unfolding held
+held-tip tip store x e = rw e (same-eq (tip .name) x e)
+
+module _ (set : Settings) (w : World) (H : HighVoted (R set w)) (i : ℕ) (l₀ : List (List ℕ)) where
+  -- ---- a timeout is sent
+  module _ (v : ℕ) (W : Work) (S : Sound set w i l₀ W) where
+    abbrev q : List ℕ
+    q = timeoutBytes (ownTimeout W v)
+
+    timeout-view : viewNow (sendTimeout v W) ≡ viewNow W
+    unfolding sendTimeout keepTimeout timing
+    timeout-view = refl
+
+    timeout-out : sendTimeout v W .out ≡ W .out ++ q
+    unfolding sendTimeout keepTimeout
+    timeout-out = refl
+
+    did : (a : Seen set w i l₀ S) → v < lastView → Shown w i q → w .TimedOut i (Safety.content (ownTimeout W v))
+    unfolding encode Fits
+    did a small z = shown-as w i (timeout (ownTimeout W v)) (own-timeout-fits W v (omega (arith, small)) (S .real a .regular)) z
+
+    pub timeout-sound : v < lastView → timed W < v → Windowed timeouts (viewNow W) v → Sound set w i l₀ (sendTimeout v W)
+    timeout-sound small late in-window = record {
+      made = S .made ++ (q ∷ []);
+      out-is = timeout-out ∙ ap (λ (o : List ℕ). o ++ q) (S .out-is) ∙ sym (joined-more (S .made) q);
+      real = λ a.
+          let b = all-left (Shown w i) (S .made) (q ∷ []) a in
+          let z = all-head (Shown w i) q [] (all-right (Shown w i) (S .made) (q ∷ []) a) in
+          subst (λ (l : List (List ℕ)). Real set w i (viewNow (sendTimeout v W)) (sendTimeout v W) l) (append-assoc l₀ (S .made) (q ∷ []))
+          (subst (λ (r : ℕ). Real set w i r (sendTimeout v W) ((l₀ ++ S .made) ++ (q ∷ []))) (sym timeout-view)
+          (timed-real set w i (viewNow W) W (l₀ ++ S .made) (S .real b) v small (omega (arith, in-window .first)) late in-window (did b small z)));
+    }
+
+  -- ---- what applies, in the words of the invariant
+  module _ (W : Work) (S : Sound set w i l₀ W) where
+    A-sound : (v : ℕ) → AppliesA v W → Sound set w i l₀ (runA v W)
+    A-sound v a =
+        let k = timeout-window (viewNow W) v (a .window) in
+        timeout-sound v W S (k .below) (a .untimed) (record { first = k .from; last = k .to })
+
+    low : (a : Seen set w i l₀ S) → own W < 2 ^ 16
+    low a = omega (arith, S .real a .regular .member, S .real a .regular .few)
+
+    -- n, as the memory says it
+    nset : (a : Seen set w i l₀ S) → n W ≡ size set w
+    nset a = size-is set w i (viewNow W) W (l₀ ++ S .made) (S .real a)
+
+    B-taken : (v : ℕ) → AppliesB v W → Seen set w i l₀ S → TakenAt set w v (formed (W .memory) v (n W) (own W))
+    B-taken v a z =
+        let X = S .real z in
+        let k = timeout-window (viewNow W) v (a .window) in
+        let e = nset z in
+        let s = X .set-is in
+        subst (λ (k : ℕ). TakenAt set w v (formed (W .memory) v k (own W))) (sym e) (formed-taken set w H (W .memory) v (λ j h b. X .tables .timeouts-fine v j (record { first = k .from; last = k .to }) h b) (own W) (low z)
+        (few set w i (viewNow W) W (l₀ ++ S .made) X) (k .below)
+        (subst (λ (t : Settings). timeoutQuorum t ≤ keptCount (W .memory) (timeoutRow v) (replicas t)) s (a .enough)))
+
+    C-taken : (v : ℕ) (x : Name) → AppliesC v x W → Seen set w i l₀ S
+        → TakenAt set w v (blockCertificateBytes (own W) v x (signersFor v W x))
+    C-taken v x a z =
+        let X = S .real z in
+        let k = ballot-window (viewNow W) v (a .window) in
+        let e = nset z in
+        let s = X .set-is in
+        let r = X .regular in
+        let name = entry-name (W .memory) (voteRow v) (n W) x (r .few) (r .typed .memory) (omega (arith, row-fits votes v, r .memory-long))
+        (backed-entry (W .memory) (voteRow v) x (n W) (omega (arith, a .enough))) in
+        subst (λ (k : ℕ). TakenAt set w v (blockCertificateBytes (own W) v x (tally (W .memory) (voteRow v) x k .signers))) (sym e)
+        (block-taken set w H (W .memory) v x (own W) (low z) (few set w i (viewNow W) W (l₀ ++ S .made) X) (k .below) name
+        (λ j h b. X .tables .votes-true v j (record { first = k .from; last = k .to }) h b)
+        (subst (λ (t : Settings). blockQuorum t ≤ tally (W .memory) (voteRow v) x (replicas t) .count) s (a .enough)))
+
+    -- a certificate formed of view v, which its record says
+    progress-sound : (v : ℕ) (r : List ℕ) → viewOfProgress W (certificateOf r) ≡ v → (Seen set w i l₀ S → TakenAt set w v r) → Sound set w i l₀ (progress r W)
+    progress-sound v r e F = progress-went set w i l₀ r W S (λ z. rw e (F z)) .sound
+
+    -- the block that is released has the name that was decided
+    held-name : (v : ℕ) (x : Name) → AppliesD v x W → heldBlock W x .block .name ≡ x
+    held-name v x a = go (sameBytes (tip W .name) x) refl
+      where
+        go : (t : Bool) → sameBytes (tip W .name) x ≡ t → heldBlock W x .block .name ≡ x
+        go true e = held-tip (tip W) (blocks W) x e
+        go false e = held-in (tip W) (blocks W) x e (a .isHeld) .1
+
+    released-by : (v : ℕ) (x : Name) → AppliesD v x W → Seen set w i l₀ S → Direct (R set w) v (heldBlock W x .block .name)
+    released-by v x a z =
+        let X = S .real z in
+        let k = ballot-window (viewNow W) v (a .window) in
+        rw (held-name v x a) (direct set w H (W .memory) v x
+        (λ j h b. X .tables .votes-true v j (record { first = k .from; last = k .to }) h b)
+        (λ j h b. X .tables .commits-true v j (record { first = k .from; last = k .to }) h b)
+        (subst (λ (t : Settings). (fastQuorum t ≤ tally (W .memory) (voteRow v) x (replicas t) .count) ⊎ (slowQuorum t ≤ tally (W .memory) (commitRow v) x (replicas t) .count)) (X .set-is) (a .enough)))
+
+    -- the records of a release
+    abbrev rows : ℕ → Name → List (List ℕ)
+    rows v x = map (λ (c : Block). releaseBytes (own W) v (c .name) (c .height .0)) (ancestry (tip W) (blocks W) (heldBlock W x .block))
+
+    release-view : (v : ℕ) (b : Block) → viewNow (release v b W) ≡ viewNow W
+    unfolding release releasing
+    release-view v b = refl
+
+    release-out : (v : ℕ) (x : Name) → runD v x W .out ≡ W .out ++ joined (rows v x)
+    unfolding release releases
+    release-out v x = refl
+
+    D-sound : (v : ℕ) (x : Name) → AppliesD v x W → Sound set w i l₀ (runD v x W)
+    D-sound v x a =
+        let k = ballot-window (viewNow W) v (a .window) in
+        let b = heldBlock W x .block in
+        record {
+          made = S .made ++ rows v x;
+          out-is = release-out v x ∙ ap (λ (o : List ℕ). o ++ joined (rows v x)) (S .out-is) ∙ sym (joined-append (S .made) (rows v x));
+          real = λ z.
+              let y = all-left (Shown w i) (S .made) (rows v x) z in
+              subst (λ (l : List (List ℕ)). Real set w i (viewNow (release v b W)) (release v b W) l) (append-assoc l₀ (S .made) (rows v x))
+              (subst (λ (r : ℕ). Real set w i r (release v b W) ((l₀ ++ S .made) ++ rows v x)) (sym (release-view v b))
+              (release-real set w i (viewNow W) W (l₀ ++ S .made) (S .real y) v (k .below) b (applied-in v x W a) (a .leadsDown) (released-by v x a y)));
+        }
+
+  -- the view that a formed certificate says
+  formed-view : (W : Work) (v : ℕ) → AppliesB v W → viewOfProgress W (certificateOf (formed (W .memory) v (n W) (own W))) ≡ v
+  formed-view W v a = ap (viewOfProgress W) (formed-read (W .memory) v (n W) (own W) (timeout-window (viewNow W) v (a .window) .below))
+
+  block-says : (W : Work) (v : ℕ) (x : Name) → AppliesC v x W → viewOfProgress W (certificateOf (blockCertificateBytes (own W) v x (signersFor v W x))) ≡ v
+  block-says W v x a = form-view W _ ∙ block-view (own W) v x (signersFor v W x) (ballot-window (viewNow W) v (a .window) .below)
+
+  -- ONE TURN, and any number of them
+  turn-sound : (W W′ : Work) → Turn W W′ → Sound set w i l₀ W → Sound set w i l₀ W′
+  turn-sound W W′ (byA v a) S = A-sound W S v (a .here)
+  turn-sound W W′ (byB v n a) S = progress-sound W S v _ (formed-view W v (a .here)) (B-taken W S v (a .here))
+  turn-sound W W′ (byC v x n m a) S = progress-sound W S v _ (block-says W v x (a .here)) (C-taken W S v x (a .here))
+  turn-sound W W′ (byD v x n m o a) S = D-sound W S v x (a .here)
+
+  turns-sound : (W W′ : Work) → Turns W W′ → Sound set w i l₀ W → Sound set w i l₀ W′
+  turns-sound W W′ rest S = S
+  turns-sound W W′ (turn {W₁ = W₁} t more) S = turns-sound W₁ W′ more (turn-sound W W₁ t S)
+
+  -- THE RULES KEEP THE INVARIANT: their run is such turns
+  pub settle-sound : (W : Work) → Regular W → Sound set w i l₀ W → Sound set w i l₀ (settle W)
+  settle-sound W r = turns-sound W (settle W) (settle-is-the-loop W r)
