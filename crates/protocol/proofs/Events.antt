@@ -67,7 +67,7 @@ few-timeouts n v low [] p h = omega arith
 few-timeouts n v low (t ∷ ts) p h = omega (arith, p .1, few-timeouts n v (suc (t .sender)) ts (p .4) (p .2))
 
 pub stands-form : (W : Work) (r : List ℕ) (s : ℕ) (k : Certificate) → CertificateFits k → CertificateProper (n W) k → Stands r (certificate s k)
-    → EntryForm (n W) r × (viewOf r ≡ viewOfProgress W k)
+    → EntryForm (n W) r × (viewOf r ≡ viewOfProgress k)
 unfolding CertificateFits CertificateProper
 stands-form W r s (byBlock v x g) f p h = (inl (h .reads .1 .0, length-stands r (certificate s (byBlock v x g)) h), h .reads .1 .1 .1 .0)
 stands-form W r s (byTimeouts v ts) f p h =
@@ -78,7 +78,7 @@ stands-form W r s (byTimeouts v ts) f p h =
     )
 
 came-in : (W : Work) (r : List ℕ) (s : ℕ) (k : Certificate) → IsBytes r → CertificateFits k → CertificateProper (n W) k → Stands r (certificate s k)
-    → viewOfProgress W k < lastView → ProgressForm (n W) r
+    → viewOfProgress k < lastView → ProgressForm (n W) r
 came-in W r s k b f p h low = let e = stands-form W r s k f p h in record { bytes = b; form = e .0; view = omega (arith, e .1) }
 
 progress-done : (W : Work) (r : List ℕ) → ProgressForm (n W) r → Regular W → Done eventRoom W (progress r W)
@@ -103,7 +103,7 @@ by-content W r (timeout t) b h f p q R =
     done 0 W _ (omega arith) (keep-regular W timeouts (t .view .0) (t .sender) r (omega (arith, other-low W (t .sender) (q .0), R .few)) l b R) (omega arith)
 by-content W r (proposal j v x y i k) b h f p q R =
     let inner : Stands (progressOf r) (certificate j k) = rw (h .rest) (stands-encode (certificate j k) (f .0, f .5)) in
-    let before : suc (viewOfProgress W k) ≡ v = eqb-true _ _ (and-true (progressGood (settings W) k) (eqb (suc (viewOfProgress W k)) v) (not-false _ (q .1 .1 .1 .0)) .1) in
+    let before : suc (viewOfProgress k) ≡ v = eqb-true _ _ (and-true (progressGood (settings W) k) (eqb (suc (viewOfProgress k)) v) (not-false _ (q .1 .1 .1 .0)) .1) in
     let low : v < lastView = leb-false _ _ (q .1 .1 .0) in
     more (entryRoom + voteLength) W _ (omega arith)
     (proposal-any W v (child W x y i) (progressOf r) (f .1) (record { name = f .2; parent = f .3; height = f .4 })

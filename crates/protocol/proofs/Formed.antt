@@ -64,7 +64,7 @@ counts-same t (suc k) = go (t k) (counts-same t k)
     go true e = omega (arith, e)
     go false e = omega (arith, e)
 
-is-true : (b : Bool) → T b → b ≡ true
+pub is-true : (b : Bool) → T b → b ≡ true
 is-true true t = refl
 is-true false t = absurd t
 
@@ -118,6 +118,7 @@ module _ (set : Settings) (w : World) (H : HighVoted (R set w)) where
             signers = rw back (safe-signers u ts (G .proper));
           };
           below = small;
+          of-view = rw back refl;
           backed = rw back (inr c);
           safe-le = rw back (c .safe-le);
         }
@@ -269,6 +270,7 @@ module _ (set : Settings) (w : World) (H : HighVoted (R set w)) where
               signers = rw back signers-low;
             };
             below = small;
+            of-view = rw back refl;
             backed = rw back (inl (refl, refl, good));
             safe-le = rw back (omega arith);
           }

@@ -52,11 +52,11 @@ unfolding CertificateFits safeCertificate
 fits-typed s (byBlock v x g) h f = record { view = f .0; name = f .1; signers = f .2 }
 fits-typed s (byTimeouts v ts) h f = safe-typed s ts h (f .2)
 
-pub form-view : (W : Work) (r : List ℕ) → viewOfProgress W (certificateOf r) ≡ viewOf r
+pub form-view : (W : Work) (r : List ℕ) → viewOfProgress (certificateOf r) ≡ viewOf r
 unfolding certificateOf
 form-view W r = go (eqb (kindOf r) 3)
   where
-    go : (t : Bool) → viewOfProgress W (cond t (byBlock (viewOf r) (part r 16 32) (leNat (part r 48 8))) (byTimeouts (viewOf r) (map timeoutOf (slots r)))) ≡ viewOf r
+    go : (t : Bool) → viewOfProgress (cond t (byBlock (viewOf r) (part r 16 32) (leNat (part r 48 8))) (byTimeouts (viewOf r) (map timeoutOf (slots r)))) ≡ viewOf r
     go true = refl
     go false = refl
 

@@ -94,6 +94,7 @@ module _ (set : Settings) (w : World) where
   pub record TakenAt (u : ℕ) (r : List ℕ) : Type 0 where
     pub taken : Taken r
     pub below : u < lastView
+    pub of-view : viewOfProgress (certificateOf r) ≡ u
     pub backed : Progress (R set w) u (cert (safeCertificate set (certificateOf r)))
     pub safe-le : safeCertificate set (certificateOf r) .view .0 ≤ u
 
@@ -189,7 +190,7 @@ module _ (set : Settings) (w : World) (i : ℕ) (l₀ : List (List ℕ)) where
         let X = adopted-real (suc u) (omega arith) (omega arith) (omega (arith, f .below)) a in
         entered-real set w i u (send W₁ s) (l ++ (s ∷ []))
         s
-        (record { says = k; is = sent-on a; fits = f .taken .fits; proper = f .taken .proper; progress = f .backed })
+        (record { says = k; is = sent-on a; fits = f .taken .fits; proper = f .taken .proper; of-view = f .of-view; progress = f .backed })
         (sent-real set w i (suc u) W₁ l s (cert-sent a) (cert-reads a) X)
 
     entered-view : viewNow W₃ ≡ suc u
@@ -306,17 +307,17 @@ module _ (set : Settings) (w : World) (i : ℕ) (l₀ : List (List ℕ)) where
     }
 
   -- WHAT A PROGRESS CERTIFICATE DOES
-  module _ (r : List ℕ) (W : Work) (S : Sound W) (F : Seen S → TakenAt set w (viewOfProgress W (certificateOf r)) r) where
+  module _ (r : List ℕ) (W : Work) (S : Sound W) (F : Seen S → TakenAt set w (viewOfProgress (certificateOf r)) r) where
     abbrev vᵣ : ℕ
-    vᵣ = viewOfProgress W (certificateOf r)
+    vᵣ = viewOfProgress (certificateOf r)
 
     abbrev Wₑ : Work
     Wₑ = enterBy (send (adopt W (safeCertificate (settings W) (certificateOf r))) (withSender (own W) r)) (suc vᵣ) (withSender (own W) r)
 
     -- by kind: only a block certificate has a commit after it
-    after-went : (k : Certificate) (W₄ : Work) → viewNow W ≤ viewOfProgress W k → Went (viewOfProgress W k) (cert (safeCertificate set k)) W S W₄ → (Seen S → CertificateFits k)
-        → (Seen S → Good (R set w) (cert (safeCertificate set k))) → (Seen S → viewOfProgress W k < lastView)
-        → Went (viewOfProgress W k) (cert (safeCertificate set k)) W S (commitAfter k W₄)
+    after-went : (k : Certificate) (W₄ : Work) → viewNow W ≤ viewOfProgress k → Went (viewOfProgress k) (cert (safeCertificate set k)) W S W₄ → (Seen S → CertificateFits k)
+        → (Seen S → Good (R set w) (cert (safeCertificate set k))) → (Seen S → viewOfProgress k < lastView)
+        → Went (viewOfProgress k) (cert (safeCertificate set k)) W S (commitAfter k W₄)
     unfolding safeCertificate CertificateFits
     after-went (byBlock u x g) W₄ h G f good b =
         by-test (λ (W′ : Work). Went u (blockOf u x) W S W′) (ltb (timed W₄) u) (sendCommit u x W₄) W₄

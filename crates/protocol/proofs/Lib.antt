@@ -31,3 +31,5 @@ pub mod Storing
 pub mod Going
 pub mod Formed
 pub mod Turned
+pub mod Telling
+pub mod Accepting

@@ -85,10 +85,10 @@ progress-held W r f R =
     let W₁ = adopt W (safeCertificate (settings W) k) in
     let R₁ : Regular W₁ = adopts-regular W r (f .bytes) (f .form) R in
     let W₂ = send W₁ s in
-    let W₃ = enterBy W₂ (suc (viewOfProgress W k)) s in
-    let r₃ = enter-regular W₂ (suc (viewOfProgress W k)) s (omega arith) (omega (arith, form-view W r, f .view)) (sender-bytes (own W) r (f .bytes)) (sender-form (own W) r (n W) (f .form)) (send-regular W₁ s R₁) in
+    let W₃ = enterBy W₂ (suc (viewOfProgress k)) s in
+    let r₃ = enter-regular W₂ (suc (viewOfProgress k)) s (omega arith) (omega (arith, form-view W r, f .view)) (sender-bytes (own W) r (f .bytes)) (sender-form (own W) r (n W) (f .form)) (send-regular W₁ s R₁) in
     let low : own W₃ < largest = omega (arith, r₃ .0 .member, r₃ .0 .few) in
-    held-if W (commitAfter k W₃) W₁ (leb (viewNow W) (viewOfProgress W k))
+    held-if W (commitAfter k W₃) W₁ (leb (viewNow W) (viewOfProgress k))
     (held-trans W W₃ _ (held-trans W W₂ W₃ (held-trans W W₁ W₂ (adopt-held W _) (send-held W₁ s)) (enter-held W₂ _ s)) (commit-after-held k W₃ (form-fits (n W) r (f .bytes) (f .form)) low))
     (adopt-held W _)
 

@@ -55,10 +55,10 @@ progress-regular W r f R =
     let W₁ = adopt W (safeCertificate (settings W) k) in
     let R₁ : Regular W₁ = adopts-regular W r (f .bytes) (f .form) R in
     let W₂ = send W₁ s in
-    let W₃ = enterBy W₂ (suc (viewOfProgress W k)) s in
-    let r₃ = enter-regular W₂ (suc (viewOfProgress W k)) s (omega arith) (omega (arith, form-view W r, f .view)) (sender-bytes (own W) r (f .bytes)) (sender-form (own W) r (n W) (f .form)) (send-regular W₁ s R₁) in
+    let W₃ = enterBy W₂ (suc (viewOfProgress k)) s in
+    let r₃ = enter-regular W₂ (suc (viewOfProgress k)) s (omega arith) (omega (arith, form-view W r, f .view)) (sender-bytes (own W) r (f .bytes)) (sender-form (own W) r (n W) (f .form)) (send-regular W₁ s R₁) in
     let r₄ = commit-after k W₃ (form-fits (n W) r (f .bytes) (f .form)) (r₃ .0) in
-    next-if W (commitAfter k W₃) W₁ (leb (viewNow W) (viewOfProgress W k))
+    next-if W (commitAfter k W₃) W₁ (leb (viewNow W) (viewOfProgress k))
     (λ e. (r₄ .0, still-trans W W₃ _ (still-trans W W₂ W₃ (same-still W W₂ refl refl) (r₃ .1)) (r₄ .1))) (λ e. (R₁, adopt-still W _))
 
 -- ---- the rules, at a view of the window

@@ -118,7 +118,7 @@ module _ (set : Settings) (w : World) (H : HighVoted (R set w)) (i : ℕ) (l₀ 
         (subst (λ (t : Settings). blockQuorum t ≤ tally (W .memory) (voteRow v) x (replicas t) .count) s (a .enough)))
 
     -- a certificate formed of view v, which its record says
-    progress-sound : (v : ℕ) (r : List ℕ) → viewOfProgress W (certificateOf r) ≡ v → (Seen set w i l₀ S → TakenAt set w v r) → Sound set w i l₀ (progress r W)
+    progress-sound : (v : ℕ) (r : List ℕ) → viewOfProgress (certificateOf r) ≡ v → (Seen set w i l₀ S → TakenAt set w v r) → Sound set w i l₀ (progress r W)
     progress-sound v r e F = progress-went set w i l₀ r W S (λ z. rw e (F z)) .sound
 
     -- the block that is released has the name that was decided
@@ -165,10 +165,10 @@ module _ (set : Settings) (w : World) (H : HighVoted (R set w)) (i : ℕ) (l₀ 
         }
 
   -- the view that a formed certificate says
-  formed-view : (W : Work) (v : ℕ) → AppliesB v W → viewOfProgress W (certificateOf (formed (W .memory) v (n W) (own W))) ≡ v
-  formed-view W v a = ap (viewOfProgress W) (formed-read (W .memory) v (n W) (own W) (timeout-window (viewNow W) v (a .window) .below))
+  formed-view : (W : Work) (v : ℕ) → AppliesB v W → viewOfProgress (certificateOf (formed (W .memory) v (n W) (own W))) ≡ v
+  formed-view W v a = ap (viewOfProgress) (formed-read (W .memory) v (n W) (own W) (timeout-window (viewNow W) v (a .window) .below))
 
-  block-says : (W : Work) (v : ℕ) (x : Name) → AppliesC v x W → viewOfProgress W (certificateOf (blockCertificateBytes (own W) v x (signersFor v W x))) ≡ v
+  block-says : (W : Work) (v : ℕ) (x : Name) → AppliesC v x W → viewOfProgress (certificateOf (blockCertificateBytes (own W) v x (signersFor v W x))) ≡ v
   block-says W v x a = form-view W _ ∙ block-view (own W) v x (signersFor v W x) (ballot-window (viewNow W) v (a .window) .below)
 
   -- ONE TURN, and any number of them

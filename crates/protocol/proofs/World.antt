@@ -36,6 +36,7 @@ use Rattle.safety.specs.Run.{released}
 use Rattle.safety.specs.Match.{Matches}
 use Rattle.safety.specs.Trace as Trace
 use Rattle.protocol.specs.Work.{Work, settings, own, viewNow, tip, blocks}
+use Rattle.protocol.specs.Refusals.{viewOfProgress}
 use Rattle.protocol.specs.OneChain.{reads}
 use Rattle.protocol.proofs.Regular.{Regular}
 use Rattle.protocol.proofs.Holding.{HoldsIn}
@@ -119,6 +120,7 @@ module _ (set : Settings) (w : World) where
     pub is : r ≡ certificateBytes j says
     pub fits : CertificateFits says
     pub proper : CertificateProper size says
+    pub of-view : viewOfProgress says ≡ u
     pub progress : Progress R u (cert (safeCertificate set says))
 
   -- certificates are good, and below the roof: the view, or the view that is being entered. j is the own number, r the entry certificate's record

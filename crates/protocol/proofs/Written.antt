@@ -85,9 +85,9 @@ progress-room W r f =
     let k = certificateOf r in
     let s = withSender (own W) r in
     let W₁ = adopt W (safeCertificate (settings W) k) in
-    let W₃ = enterBy (send W₁ s) (suc (viewOfProgress W k)) s in
+    let W₃ = enterBy (send W₁ s) (suc (viewOfProgress k)) s in
     let sent : length (W₃ .out) ≡ length (W .out) + length r = omega (arith, length-append (W .out) s, length-patch r 6 (leBytes 2 (own W))) in
-    grows-if (length r + commitRoom k) W (commitAfter k W₃) W₁ (leb (viewNow W) (viewOfProgress W k))
+    grows-if (length r + commitRoom k) W (commitAfter k W₃) W₁ (leb (viewNow W) (viewOfProgress k))
     (λ e. omega (arith, sent, commit-after-out k W₃ f)) (λ e. omega arith)
 
 -- a block certificate and its commit, or a timeout certificate

@@ -28,7 +28,7 @@ commitAfter (byTimeouts v ts) W = W
 unfoldable pub progress : List ℕ → Work → Work
 progress r W =
     let k = certificateOf r in
-    let v = viewOfProgress W k in
+    let v = viewOfProgress k in
     let s = withSender (own W) r in
     let W₁ = adopt W (safeCertificate (settings W) k) in
     cond (leb (viewNow W) v) (commitAfter k (enterBy (send W₁ s) (suc v) s)) W₁

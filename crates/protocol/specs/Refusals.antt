@@ -29,6 +29,11 @@ storeLength = 128
 abbrev pub outputLength : ℕ
 outputLength = 32768
 
+-- the view of a progress certificate
+abbrev pub viewOfProgress : Certificate → ℕ
+viewOfProgress (byBlock v x g) = v
+viewOfProgress (byTimeouts v ts) = v
+
 -- ---- 2, "regions": lengths, and what docs/INTERFACE.md lists of memory and counters
 module _ (W : Work) where
   -- the entry certificate is a record of kind 3, or of kind 6 with at most n timeouts, and has its length
@@ -62,11 +67,6 @@ module _ (W : Work) where
 
   abbrev pub aboveWindow : ℕ → Bool
   aboveWindow v = ltb (viewNow W + 3) v || leb lastView v
-
-  -- ---- 9, "certificate": good, and for the view before
-  abbrev pub viewOfProgress : Certificate → ℕ
-  viewOfProgress (byBlock v x g) = v
-  viewOfProgress (byTimeouts v ts) = v
 
   -- ---- 10 and 11, "before"
   abbrev pub sameChild : Block → Block → Bool
