@@ -92,6 +92,11 @@ module _ (set : Settings) (w : World) (H : HighVoted (R set w)) where
       chosen-has (λ k. k .signers < 2 ^ size set w) set t ts (carried-low (size set w) u 0 (t ∷ ts) p)
       (all-impl _ _ (t ∷ ts) (λ v q b. backing-lt (size set w) (v .high .view .0) (v .high .name) (t ∷ ts)) (carried-low (size set w) u 0 (t ∷ ts) p))
 
+  pub certificate-signers : (k : Certificate) → CertificateProper (size set w) k → safeCertificate set k .signers < 2 ^ size set w
+  unfolding CertificateProper safeCertificate
+  certificate-signers (byBlock v x g) p = p
+  certificate-signers (byTimeouts v ts) p = safe-signers v ts p
+
   -- ---- enough of them are a timeout certificate, whose record says them
   module _ (j u : ℕ) (ts : List Timeout) (low : j < 2 ^ 16) (few-all : size set w ≤ largest) (small : u < lastView) (G : Timeouts u 0 ts) (enough : timeoutQuorum set ≤ length ts) where
     good-timeouts : GoodTimeouts held (R set w) u ts

@@ -138,10 +138,10 @@ module _ (set : Settings) (w : World) (i : ℕ) (l₀ : List (List ℕ)) where
     safe-is : Seen S → safeCertificate (settings W) k ≡ safeCertificate set k
     safe-is a = ap (λ (t : Settings). safeCertificate t k) (S .real a .set-is)
 
-    over-safe : Seen S → cert (safeCertificate set k) ⊑ traced (W₁ .counters) .top
+    pub over-safe : Seen S → cert (safeCertificate set k) ⊑ traced (W₁ .counters) .top
     over-safe a = rw (← safe-is a) (adopt-top set w i W (safeCertificate (settings W) k))
 
-    adopted-real : (roof : ℕ) → viewNow W ≤ roof → u < roof → roof ≤ lastView → (a : Seen S) → Real set w i roof W₁ l
+    pub adopted-real : (roof : ℕ) → viewNow W ≤ roof → u < roof → roof ≤ lastView → (a : Seen S) → Real set w i roof W₁ l
     adopted-real roof h b m a =
         let f = F a in
         rw (safe-is a) (adopt-real set w i roof W l (safeCertificate set k)

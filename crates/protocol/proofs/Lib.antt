@@ -33,3 +33,5 @@ pub mod Formed
 pub mod Turned
 pub mod Telling
 pub mod Accepting
+pub mod Received
+pub mod Asked
