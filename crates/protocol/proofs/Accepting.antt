@@ -11,12 +11,13 @@ use lib.ListN.{length, take, length-take}
 use Rattle.settings.specs.declared.Settings.{Settings}
 use Rattle.settings.specs.Quorum.{lastView, lastHeight}
 use Rattle.codec.specs.Bytes.{IsBytes}
-use Rattle.codec.specs.Names.{sameBytes, zeroName}
+use Rattle.codec.specs.Names.{nameLength, sameBytes, zeroName}
 use Rattle.codec.proofs.Order.{and-true, same-eq, which}
 use Rattle.wire.specs.Fields.{timeoutLength}
 use Rattle.wire.specs.Encode.{voteBytes, encode, joined}
 use Rattle.wire.specs.Content.{certificateOf, vote, commit, certificate, timeout, block}
-use Rattle.wire.specs.Fit.{IsName, Fits}
+use Rattle.wire.specs.Fit.{IsName, IsU64, All, CertificateFits, Fits}
+use Rattle.wire.proofs.Facts.{Framed}
 use Rattle.wire.proofs.Frames.{or-false}
 use Rattle.certificate.specs.Safe.{safeCertificate}
 use Rattle.blocks.specs.declared.Block.{Block}
@@ -37,11 +38,11 @@ use Rattle.protocol.specs.Refusals.{storeLength, notOther, belowView, ab
 use Rattle.protocol.specs.Events.{progress, propositionOf}
 use Rattle.protocol.proofs.Regular.{Regular}
 use Rattle.protocol.proofs.World.{Name, World, R, size, traced, TimeoutKept, ParentHeld, VoteGround, Real}
-use Rattle.protocol.proofs.Records.{joined-more}
+use Rattle.protocol.proofs.Records.{joined-more, vote-framed}
 use Rattle.protocol.proofs.Steps.{size-is, few, vote-real, commit-real, timeout-real, adopt-view}
 use Rattle.protocol.proofs.Acts.{voted-real}
 use Rattle.protocol.proofs.Storing.{hold-real}
-use Rattle.protocol.proofs.Going.{all-left, all-right, all-head, by-test, Shown, shown-as, Sound, Seen, grown, TakenAt, over-safe, adopted-real, progress-went}
+use Rattle.protocol.proofs.Going.{framed-more, all-left, all-right, all-head, by-test, Shown, shown-as, Sound, Seen, grown, TakenAt, over-safe, adopted-real, progress-went}
 
 -- ---- what the tests leave
 pub other-is : (W : Work) (j : ℕ) → notOther W j ≡ false → j < n W
@@ -94,6 +95,7 @@ module _ (set : Settings) (w : World) (H : HighVoted (R set w)) (i : ℕ) (l₀ 
     vote-sound j v x low k small name told = record {
       made = S .made;
       out-is = S .out-is;
+      framed = S .framed;
       real = λ a. vote-real set w i (viewNow W) W l v j x (name .bytes) (omega (arith, nset a, low)) (S .real a) (name .size) k (record { below = small; truly = told });
     }
 
@@ -102,6 +104,7 @@ module _ (set : Settings) (w : World) (H : HighVoted (R set w)) (i : ℕ) (l₀ 
     commit-sound j v x low k small name told = record {
       made = S .made;
       out-is = S .out-is;
+      framed = S .framed;
       real = λ a. commit-real set w i (viewNow W) W l v j x (name .bytes) (omega (arith, nset a, low)) (S .real a) (name .size) k (record { below = small; truly = told });
     }
 
@@ -110,6 +113,7 @@ module _ (set : Settings) (w : World) (H : HighVoted (R set w)) (i : ℕ) (l₀ 
     kept-sound v j e low k bytes long told = record {
       made = S .made;
       out-is = S .out-is;
+      framed = S .framed;
       real = λ a. timeout-real set w i (viewNow W) W l v j e bytes (omega (arith, nset a, low)) (S .real a) long k (told a);
     }
 
@@ -135,6 +139,7 @@ module _ (set : Settings) (w : World) (H : HighVoted (R set w)) (i : ℕ) (l₀ 
     hold-sound = record {
       made = S .made;
       out-is = hold-out W b ∙ S .out-is;
+      framed = S .framed;
       real = λ a.
           let X = S .real a in
           subst (λ (r : ℕ). Real set w i r (hold W b) (l₀ ++ S .made)) (sym (hold-view W b))
@@ -165,7 +170,7 @@ module _ (set : Settings) (w : World) (H : HighVoted (R set w)) (i : ℕ) (l₀ 
     adopted-here : v ≡ viewNow W → (Seen set w i l₀ S → TakenAt set w u r) → (Seen set w i l₀ S → u < viewNow W) → Ready (adopt W (safeCertificate (settings W) (certificateOf r)))
     unfolding adopt adopting withLocks
     adopted-here q F below = record {
-      sound = record { made = S .made; out-is = S .out-is; real = λ a. adopted-real set w i l₀ r W S u F (viewNow W) (omega arith) (below a) (S .real a .certified .roof-le) a };
+      sound = record { made = S .made; out-is = S .out-is; framed = S .framed; real = λ a. adopted-real set w i l₀ r W S u F (viewNow W) (omega arith) (below a) (S .real a .certified .roof-le) a };
       shown = λ a. a;
       blocks-same = λ a. refl;
       tip-same = refl;
@@ -177,17 +182,17 @@ module _ (set : Settings) (w : World) (H : HighVoted (R set w)) (i : ℕ) (l₀ 
     pub ready-now : v ≡ viewNow W → (Seen set w i l₀ S → TakenAt set w u r) → (Seen set w i l₀ S → u < viewNow W) → Ready W₁
     ready-now q F below = by-test Ready (eqb v (viewNow W)) _ _ (λ e. adopted-here q F below) (λ e. absurd (eqb-false v (viewNow W) e q))
 
-    pub ready-any : (Seen set w i l₀ S → TakenAt set w u r) → suc u ≡ v → viewNow W ≤ v → Ready W₁
-    ready-any F next le = by-test Ready (eqb v (viewNow W)) _ _
+    pub ready-any : (Seen set w i l₀ S → TakenAt set w u r) → Framed r → CertificateFits (certificateOf r) → suc u ≡ v → viewNow W ≤ v → Ready W₁
+    ready-any F whole fit next le = by-test Ready (eqb v (viewNow W)) _ _
         (λ e. let q = eqb-true v (viewNow W) e in adopted-here q F (λ a. omega (arith, q, next)))
         (λ e. let q = eqb-false v (viewNow W) e in
-        let G = progress-went set w i l₀ r W S F in
+        let G = progress-went set w i l₀ r W S F whole fit in
         let lt : viewNow W ≤ u = ⊎-elim (λ h. omega (arith, h, next)) (⊎-elim (λ h. absurd (q (sym h))) (λ h. absurd (omega (arith, h, le)))) (which (viewNow W) v) in
         record { sound = G .sound; shown = G .shown; blocks-same = G .blocks-same; tip-same = G .tip-same; over = G .over; view-is = G .views lt ∙ next })
 
   -- then the block is held, and voted for if that may be
   module _ (W : Work) (S : Snd W) (v : ℕ) (b : Block) (r : List ℕ) (ready : Ready W S v r (W₁ W S v r)) (F : Seen set w i l₀ S → TakenAt set w (viewOfProgress (certificateOf r)) r)
-      (next : Seen set w i l₀ S → suc (viewOfProgress (certificateOf r)) ≡ v) (small : v < lastView) (typed : Seen set w i l₀ S → BlockTyped b) (named : b .name ≡ zeroName → ⊥)
+      (next : Seen set w i l₀ S → suc (viewOfProgress (certificateOf r)) ≡ v) (small : v < lastView) (typed : Seen set w i l₀ S → BlockTyped b) (long : length (b .name) ≡ nameLength) (named : b .name ≡ zeroName → ⊥)
       (born : Seen set w i l₀ S → w .Born b) (on : Seen set w i l₀ S → b .parent ≡ safeCertificate set (certificateOf r) .name)
       (room : heldBlock W (b .name) .is ≡ false → Seen set w i l₀ S → length (blocks W) < storeLength)
       (place : Seen set w i l₀ S → ParentHeld set w (tip W) (blocks W) b × (b .height .0 ≤ lastHeight)) where
@@ -251,6 +256,7 @@ module _ (set : Settings) (w : World) (H : HighVoted (R set w)) (i : ℕ) (l₀ 
     voted-sound : timed W₂ < v → highView W₂ < v → Snd (sendVote v (b .name) W₂)
     voted-sound late first = record {
       made = S₂ .made ++ (q ∷ []);
+      framed = framed-more (S₂ .made) q (S₂ .framed) (vote-framed 1 (own W₂) v (b .name) long);
       out-is = vote-out ∙ ap (λ (o : List ℕ). o ++ q) (S₂ .out-is) ∙ sym (joined-more (S₂ .made) q);
       real = λ a.
           let y = all-left (Shown w i) (S₂ .made) (q ∷ []) a in

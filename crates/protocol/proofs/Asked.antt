@@ -16,27 +16,29 @@ use Rattle.wire.specs.Encode.{proposalBytes, encode, joined}
 use Rattle.wire.specs.Content.{certificateOf, Content, certificate, timeout, proposal}
 use Rattle.wire.specs.Fit.{IsName, Fits, Proper}
 use Rattle.wire.proofs.Frames.{or-false}
-use Rattle.wire.proofs.Facts.{Quiet}
+use Rattle.wire.proofs.Facts.{Quiet, Framed}
+use Rattle.wire.proofs.Rows.{bytes-part}
 use Rattle.wire.proofs.Contents.{certificate-back}
 use Rattle.certificate.specs.Safe.{safeCertificate}
 use Rattle.blocks.specs.declared.Block.{Block}
-use Rattle.memory.specs.Layout.{blockCountOf, entryOf}
+use Rattle.memory.specs.Layout.{entryPlace, entryLengthOf, blockCountOf, entryOf}
 use Rattle.memory.specs.Window.{leaderOf}
 use Rattle.safety.specs.Rank.{Cert}
 use Rattle.safety.specs.Cluster.{Good, HighVoted, Progress}
 use Rattle.safety.specs.Certificates.{cert}
 use Rattle.safety.specs.Run.{is-other}
 use Rattle.safety.specs.Trace as Trace
-use Rattle.protocol.specs.Work.{Work, settings, own, viewNow, timed, highView, tip, blocks, heldBlock, send}
+use Rattle.protocol.specs.Work.{Work, settings, n, own, viewNow, timed, highView, tip, blocks, heldBlock, send}
 use Rattle.protocol.specs.Typed.{BlockTyped}
 use Rattle.protocol.specs.Refusals.{viewOfProgress, storeLength, timerRules, nextBlock, proposeRules}
 use Rattle.protocol.specs.Events.{onTimer, onPropose}
 use Rattle.protocol.specs.OneChain.{reads}
-use Rattle.protocol.proofs.Forms.{fits-typed}
+use Rattle.protocol.proofs.Regular.{Regular, form-room}
+use Rattle.protocol.proofs.Forms.{fits-typed, form-fits}
 use Rattle.protocol.proofs.World.{ParentHeld, Name, World, R, size, Sent, Entry, Real}
-use Rattle.protocol.proofs.Records.{reads-encode, joined-more}
+use Rattle.protocol.proofs.Records.{reads-encode, joined-more, proposal-framed}
 use Rattle.protocol.proofs.Steps.{size-is, few, sent-real}
-use Rattle.protocol.proofs.Going.{all-left, all-right, all-head, Shown, shown-as, Sound, Seen, grown, TakenAt}
+use Rattle.protocol.proofs.Going.{framed-more, all-left, all-right, all-head, Shown, shown-as, Sound, Seen, grown, TakenAt}
 use Rattle.protocol.proofs.Formed.{certificate-signers}
 use Rattle.protocol.proofs.Turned.{timeout-sound}
 use Rattle.protocol.proofs.Accepting.{below-is, parent-is, held-parent, count-is, ready-now, proposition-sound}
@@ -46,14 +48,14 @@ module _ (set : Settings) (w : World) (H : HighVoted (R set w)) (i : ℕ) (l₀ 
   Snd W = Sound set w i l₀ W
 
   -- ---- THE TIMER
-  pub timer-sound : (v : ℕ) (W : Work) → Snd W → Quiet (timerRules W v) → Snd (onTimer v W)
+  pub timer-sound : (v : ℕ) (W : Work) → Regular W → Snd W → Quiet (timerRules W v) → Snd (onTimer v W)
   unfolding timerRules
-  timer-sound v W S t =
+  timer-sound v W reg S t =
       let d = below-is W v (t .0) in
       let p = or-false (ltb (viewNow W) v) (leb lastView v) (t .1 .0) in
       let le = ltb-false (viewNow W) v (p .0) in
       let late = leb-false (viewNow W) (timed W) (t .1 .1 .0) in
-      timeout-sound set w H i l₀ v W S (leb-false lastView v (p .1)) (omega (arith, d .0, late)) (record { first = d .0; last = omega (arith, le) })
+      timeout-sound set w H i l₀ v W reg S (leb-false lastView v (p .1)) (omega (arith, d .0, late)) (record { first = d .0; last = omega (arith, le) })
 
   -- ---- PROPOSE: the own proposal on the entry certificate
   -- the entry certificate, which the invariant knows
@@ -85,7 +87,7 @@ module _ (set : Settings) (w : World) (H : HighVoted (R set w)) (i : ℕ) (l₀ 
       progress-le u c (inl p) = omega (arith, p .0)
       progress-le u c (inr p) = p .safe-le
 
-  module _ (x : Name) (W : Work) (S : Snd W) (name : IsName x) (t : Quiet (proposeRules W x)) where
+  module _ (x : Name) (W : Work) (reg : Regular W) (S : Snd W) (name : IsName x) (t : Quiet (proposeRules W x)) where
     abbrev b : Block
     b = nextBlock W x
 
@@ -169,9 +171,20 @@ module _ (set : Settings) (w : World) (H : HighVoted (R set w)) (i : ℕ) (l₀ 
     unfolding content₀
     q-born a z = shown-as w i (content₀ a) (q-fits a) (subst (Shown w i) (q-is a) z)
 
+    -- the safe block of the entry certificate has a name, on any content of the memory
+    safe-name : IsName (b .parent)
+    unfolding entryOf
+    safe-name =
+        let f = form-fits (n W) r (bytes-part (W .memory) entryPlace (entryLengthOf (W .memory)) (reg .typed .memory)) (reg .entry) in
+        fits-typed (settings W) (certificateOf r) (omega (arith, reg .few)) f .name
+
+    q-framed : Framed q
+    q-framed = proposal-framed (own W) v x (b .parent) (b .height .0) r (name .size) (safe-name .size) (form-room (n W) r (reg .few) (reg .entry))
+
     S₀ : Snd W₀
     S₀ = record {
       made = S .made ++ (q ∷ []);
+      framed = framed-more (S .made) q (S .framed) q-framed;
       out-is = ap (λ (o : List ℕ). o ++ q) (S .out-is) ∙ sym (joined-more (S .made) q);
       real = λ a.
           let z = all-left (Shown w i) (S .made) (q ∷ []) a in
@@ -211,6 +224,6 @@ module _ (set : Settings) (w : World) (H : HighVoted (R set w)) (i : ℕ) (l₀ 
         (ready-now set w H i l₀ W₀ S₀ v r refl (λ a. taken₀ (earlier₀ a)) (λ a. let z = earlier₀ a in omega (arith, before-is z, ap viewOfProgress (back₀ z), entry₀ z .of-view)))
         (λ a. taken₀ (earlier₀ a))
         (λ a. let z = earlier₀ a in omega (arith, before-is z, ap viewOfProgress (back₀ z), entry₀ z .of-view))
-        small₀ (λ a. typed₀ (earlier₀ a)) named₀ (λ a. q-born (earlier₀ a) (latest₀ a))
+        small₀ (λ a. typed₀ (earlier₀ a)) (name .size) named₀ (λ a. q-born (earlier₀ a) (latest₀ a))
         (λ a. ap (λ (z : Settings). safeCertificate z (certificateOf r) .name) (S .real (earlier₀ a) .set-is))
         (λ new a. room₀ new (earlier₀ a)) (λ a. place₀ (earlier₀ a))

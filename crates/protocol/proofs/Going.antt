@@ -11,11 +11,12 @@ use lib.Dec.{T, leb, ltb}
 use lib.ListN.{length}
 use Rattle.settings.specs.declared.Settings.{Settings}
 use Rattle.settings.specs.Quorum.{lastView}
-use Rattle.codec.specs.Names.{zeroName}
+use Rattle.codec.specs.Names.{nameLength}
 use Rattle.wire.specs.Encode.{voteBytes, certificateBytes, encode, joined}
 use Rattle.wire.specs.Content.{Certificate, byBlock, byTimeouts, certificateOf, Content, vote, commit, certificate, timeout, proposal, block, release, content}
 use Rattle.wire.specs.Fit.{IsName, IsU16, All, CertificateFits, CertificateProper, Fits, Proper}
 use Rattle.wire.proofs.ReadBack.{read-written}
+use Rattle.wire.proofs.Facts.{Framed}
 use Rattle.certificate.specs.Safe.{safeCertificate}
 use Rattle.blocks.specs.declared.Block.{Block}
 use Rattle.memory.specs.Layout.{blockCountOf, withEntry}
@@ -39,8 +40,8 @@ use Rattle.protocol.specs.Events.{withSender, commitAfter, progress}
 use Rattle.protocol.specs.OneChain.{reads}
 use Rattle.protocol.proofs.Regular.{Regular}
 use Rattle.protocol.proofs.World.{Name, World, R, size, Sent, traced, Standing, Entry, Real}
-use Rattle.protocol.proofs.Records.{reads-encode, with-sender, joined-more}
-use Rattle.protocol.proofs.Steps.{size-is, sent-real, raised, adopt-top, adopt-view, adopt-timed, adopt-tip, adopt-real, entered-real}
+use Rattle.protocol.proofs.Records.{reads-encode, with-sender, joined-more, vote-framed, sender-framed}
+use Rattle.protocol.proofs.Steps.{all-more, all-one, sent-real, raised, adopt-top, adopt-view, adopt-timed, adopt-tip, adopt-real, entered-real}
 use Rattle.protocol.proofs.Acts.{committed-real}
 
 pub all-left : {A : Type 0} (P : A → Type 0) (l m : List A) → All P (l ++ m) → All P l
@@ -56,6 +57,9 @@ all-right P (x ∷ l) m a = all-right P l m (a .1)
 pub all-head : {A : Type 0} (P : A → Type 0) (x : A) (l : List A) → All P (x ∷ l) → P x
 unfolding All
 all-head P x l a = a .0
+
+pub framed-more : (l : List (List ℕ)) (r : List ℕ) → All Framed l → Framed r → All Framed (l ++ (r ∷ []))
+framed-more l r a f = all-more Framed l (r ∷ []) a (all-one Framed r f)
 
 -- a test's two outcomes
 pub by-test : {A : Type 0} (P : A → Type 0) (b : Bool) (x y : A) → (b ≡ true → P x) → (b ≡ false → P y) → P (cond b x y)
@@ -103,6 +107,7 @@ module _ (set : Settings) (w : World) (i : ℕ) (l₀ : List (List ℕ)) where
   pub record Sound (W : Work) : Type 0 where
     pub made : List (List ℕ)
     pub out-is : W .out ≡ joined made
+    pub framed : All Framed made
     pub real : All (Shown w i) made → Real set w i (viewNow W) W (l₀ ++ made)
 
   abbrev pub Seen : {W : Work} → Sound W → Type 0
@@ -151,7 +156,7 @@ module _ (set : Settings) (w : World) (i : ℕ) (l₀ : List (List ℕ)) where
     pub adopt-went : u < viewNow W → Went u (cert (safeCertificate set k)) W S W₁
     unfolding adopt adopting withLocks
     adopt-went b = record {
-      sound = record { made = S .made; out-is = S .out-is; real = λ a. adopted-real (viewNow W) (omega arith) b (S .real a .certified .roof-le) a };
+      sound = record { made = S .made; out-is = S .out-is; framed = S .framed; real = λ a. adopted-real (viewNow W) (omega arith) b (S .real a .certified .roof-le) a };
       shown = λ a. a;
       blocks-same = λ a. refl;
       tip-same = refl;
@@ -220,10 +225,11 @@ module _ (set : Settings) (w : World) (i : ℕ) (l₀ : List (List ℕ)) where
     entered-now : viewNow W ≤ u → Seen S → Real set w i (viewNow W₃) W₃ (l ++ (s ∷ []))
     entered-now h a = subst (λ (z : ℕ). Real set w i z W₃ (l ++ (s ∷ []))) (sym entered-view) (entered-one h a)
 
-    pub enter-went : viewNow W ≤ u → Went u (cert (safeCertificate set k)) W S W₃
-    enter-went h = record {
+    pub enter-went : Framed r → viewNow W ≤ u → Went u (cert (safeCertificate set k)) W S W₃
+    enter-went whole h = record {
       sound = record {
         made = S .made ++ (s ∷ []);
+        framed = framed-more (S .made) s (S .framed) (sender-framed (own W) r whole);
         out-is = entered-out ∙ ap (λ (o : List ℕ). o ++ s) (S .out-is) ∙ sym (joined-more (S .made) s);
         real = λ a. grown (λ m. Real set w i (viewNow W₃) W₃ m) (S .made) s (entered-now h (all-left (Shown w i) (S .made) (s ∷ []) a));
       };
@@ -237,7 +243,7 @@ module _ (set : Settings) (w : World) (i : ℕ) (l₀ : List (List ℕ)) where
 
   -- ---- the commit after a block certificate
   module _ (v : ℕ) (x : Name) (W : Work) (S : Sound W) (W₃ : Work) (G : Went v (blockOf v x) W S W₃) (h : viewNow W ≤ v) (name : Seen S → IsName x) (good : Seen S → Good (R set w) (blockOf v x))
-      (small : Seen S → v < lastView) (late : timed W₃ < v) where
+      (small : Seen S → v < lastView) (long : length x ≡ nameLength) (late : timed W₃ < v) where
     abbrev q : List ℕ
     q = voteBytes 2 (own W₃) v x
 
@@ -293,6 +299,7 @@ module _ (set : Settings) (w : World) (i : ℕ) (l₀ : List (List ℕ)) where
     commit-went = record {
       sound = record {
         made = S₃ .made ++ (q ∷ []);
+        framed = framed-more (S₃ .made) q (S₃ .framed) (vote-framed 2 (own W₃) v x long);
         out-is = commit-out ∙ ap (λ (o : List ℕ). o ++ q) (S₃ .out-is) ∙ sym (joined-more (S₃ .made) q);
         real = λ a. grown (λ m. Real set w i (viewNow (sendCommit v x W₃)) (sendCommit v x W₃) m) (S₃ .made) q
             (subst (λ (z : ℕ). Real set w i z (sendCommit v x W₃) ((l₀ ++ S₃ .made) ++ (q ∷ []))) (sym commit-view)
@@ -307,7 +314,8 @@ module _ (set : Settings) (w : World) (i : ℕ) (l₀ : List (List ℕ)) where
     }
 
   -- WHAT A PROGRESS CERTIFICATE DOES
-  module _ (r : List ℕ) (W : Work) (S : Sound W) (F : Seen S → TakenAt set w (viewOfProgress (certificateOf r)) r) where
+  module _ (r : List ℕ) (W : Work) (S : Sound W) (F : Seen S → TakenAt set w (viewOfProgress (certificateOf r)) r) (whole : Framed r)
+      (fit : CertificateFits (certificateOf r)) where
     abbrev vᵣ : ℕ
     vᵣ = viewOfProgress (certificateOf r)
 
@@ -315,13 +323,13 @@ module _ (set : Settings) (w : World) (i : ℕ) (l₀ : List (List ℕ)) where
     Wₑ = enterBy (send (adopt W (safeCertificate (settings W) (certificateOf r))) (withSender (own W) r)) (suc vᵣ) (withSender (own W) r)
 
     -- by kind: only a block certificate has a commit after it
-    after-went : (k : Certificate) (W₄ : Work) → viewNow W ≤ viewOfProgress k → Went (viewOfProgress k) (cert (safeCertificate set k)) W S W₄ → (Seen S → CertificateFits k)
+    after-went : (k : Certificate) (W₄ : Work) → viewNow W ≤ viewOfProgress k → Went (viewOfProgress k) (cert (safeCertificate set k)) W S W₄ → CertificateFits k
         → (Seen S → Good (R set w) (cert (safeCertificate set k))) → (Seen S → viewOfProgress k < lastView)
         → Went (viewOfProgress k) (cert (safeCertificate set k)) W S (commitAfter k W₄)
     unfolding safeCertificate CertificateFits
     after-went (byBlock u x g) W₄ h G f good b =
         by-test (λ (W′ : Work). Went u (blockOf u x) W S W′) (ltb (timed W₄) u) (sendCommit u x W₄) W₄
-        (λ e. commit-went u x W S W₄ G h (λ a. f a .1) good b (ltb-true (timed W₄) u e))
+        (λ e. commit-went u x W S W₄ G h (λ a. f .1) good b (f .1 .size) (ltb-true (timed W₄) u e))
         (λ e. G)
     after-went (byTimeouts u ts) W₄ h G f good b = G
 
@@ -330,5 +338,5 @@ module _ (set : Settings) (w : World) (i : ℕ) (l₀ : List (List ℕ)) where
     progress-went =
         by-test (λ (W′ : Work). Went vᵣ (cert (safeCertificate set (certificateOf r))) W S W′) (leb (viewNow W) vᵣ) (commitAfter (certificateOf r) Wₑ) (adopt W (safeCertificate (settings W) (certificateOf r)))
         (λ e. let h = leb-true (viewNow W) vᵣ e in
-        after-went (certificateOf r) Wₑ h (enter-went r W S vᵣ F h) (λ a. F a .taken .fits) (λ a. F a .taken .good) (λ a. F a .below))
+        after-went (certificateOf r) Wₑ h (enter-went r W S vᵣ F whole h) fit (λ a. F a .taken .good) (λ a. F a .below))
         (λ e. adopt-went r W S vᵣ F (leb-false (viewNow W) vᵣ e))

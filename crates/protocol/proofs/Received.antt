@@ -17,7 +17,7 @@ use Rattle.wire.specs.Encode.{timeoutBytes, certificateBytes, encode}
 use Rattle.wire.specs.Content.{Certificate, byBlock, byTimeouts, certificateOf, Content, vote, commit, certificate, timeout, proposal, block, release, content}
 use Rattle.wire.specs.Fit.{IsName, IsU64, All, TimeoutProper, CertificateFits, CertificateProper, Fits, Proper}
 use Rattle.wire.proofs.Frames.{or-false}
-use Rattle.wire.proofs.Facts.{Quiet}
+use Rattle.wire.proofs.Facts.{Quiet, Framed}
 use Rattle.wire.proofs.Lengths.{length-timeout}
 use Rattle.wire.proofs.Tables.{stands-encode}
 use Rattle.wire.proofs.Contents.{certificate-back}
@@ -37,6 +37,7 @@ use Rattle.protocol.specs.Events.{progress, propositionOf, onRecord}
 use Rattle.protocol.specs.OneChain.{timeoutSays, certificateSays, recordSays, recordGives, reads}
 use Rattle.protocol.proofs.World.{Name, World, R, size, ParentHeld}
 use Rattle.protocol.proofs.Steps.{few}
+use Rattle.protocol.proofs.Records.{encode-framed}
 use Rattle.protocol.proofs.Going.{Sound, Seen, TakenAt, progress-went}
 use Rattle.protocol.proofs.Telling.{ToldAs, Says, timeout-fine, certificate-told}
 use Rattle.protocol.proofs.Accepting.{other-is, above-is, below-is, parent-is, held-parent, count-is, vote-sound, commit-sound, kept-sound, hold-sound, ready-any, proposition-sound}
@@ -68,9 +69,15 @@ module _ (set : Settings) (w : World) (H : HighVoted (R set w)) (i : ℕ) (l₀ 
         rw back (certificate-told set w H (few-all a) W j k low small f (with-size (λ m. CertificateProper m k) a proper) (subst (λ (t : Settings). progressGood t k ≡ true) (set-is a) good) p is
         (with-size (λ m. Says w (certificateSays m p k)) a s))
 
+    cert-framed : (p : List ℕ) (j : ℕ) (k : Certificate) → j < 2 ^ 16 → CertificateFits k → p ≡ certificateBytes j k → Framed p
+    unfolding encode Fits
+    cert-framed p j k low f is = subst Framed (sym is) (encode-framed (certificate j k) (low, f))
+
     cert-sound : (j : ℕ) (k : Certificate) → j < 2 ^ 16 → viewOfProgress k < lastView → CertificateFits k → CertificateProper (n W) k → progressGood (settings W) k ≡ true
         → r ≡ certificateBytes j k → Says w (certificateSays (n W) r k) → Snd (progress r W)
-    cert-sound j k low small f proper good is s = progress-went set w i l₀ r W S (taken r j k low small f proper good is s) .sound
+    cert-sound j k low small f proper good is s =
+        let back : certificateOf r ≡ k = ap certificateOf is ∙ certificate-back j k low f in
+        progress-went set w i l₀ r W S (taken r j k low small f proper good is s) (cert-framed r j k low f is) (rw back f) .sound
 
     first-told : (j : ℕ) (more : List (ℕ × List ℕ)) (q : Content) → content r ≡ q → Says w ((j, r) ∷ more) → T (w .honest j) → ToldAs w j q
     unfolding All
@@ -116,8 +123,8 @@ module _ (set : Settings) (w : World) (H : HighVoted (R set w)) (i : ℕ) (l₀ 
         let parent = same-eq y (safeName W k) (not-false _ (place .0)) in
         let F = taken (progressOf r) j k (f .0) (omega (arith, next, small)) (f .5) (p .2) (good .0) inner (s .1) in
         let after : suc (viewOfProgress (certificateOf (progressOf r))) ≡ v = rw back next in
-        proposition-sound set w H i l₀ W S v (child W x y h) (progressOf r) (ready-any set w H i l₀ W S v (progressOf r) F after (d .0)) F
-        (λ a. after) small (λ a. child-typed x y h (f .2) (f .3) (f .4)) (p .0) (λ a. given (child W x y h) b)
+        proposition-sound set w H i l₀ W S v (child W x y h) (progressOf r) (ready-any set w H i l₀ W S v (progressOf r) F (cert-framed (progressOf r) j k (f .0) (f .5) inner) (rw back (f .5)) after (d .0)) F
+        (λ a. after) small (λ a. child-typed x y h (f .2) (f .3) (f .4)) (f .2 .size) (p .0) (λ a. given (child W x y h) b)
         (λ a. rw back (parent ∙ ap (λ (z : Settings). safeCertificate z k .name) (set-is a)))
         (λ new a. room-is x (t .1 .1 .1 .1 .1 .1 .1 .1 .0) new a) (λ a. placed (child W x y h) (place .1))
 

@@ -7,10 +7,14 @@ use mathlib.Core.Path.{_≡_, refl, sym, ap, subst, _∙_}
 use native.Mathlib.Omega.{arith}
 use lib.ListN.{length, take, drop, length-append, length-map}
 use Rattle.settings.specs.Quorum.{largest}
-use Rattle.codec.specs.Bytes.{IsBytes, patch, leBytes}
+use Rattle.codec.specs.Bytes.{IsBytes, part, patch, leNat, leBytes}
+use Rattle.codec.specs.Names.{nameLength}
+use Rattle.codec.proofs.Laws.{part-before, length-patch}
+use Rattle.codec.proofs.Le.{leNat-leBytes, length-leBytes}
+use Rattle.wire.proofs.Lengths.{length-header, length-timeouts}
 use Rattle.wire.specs.declared.Timeout.{Timeout}
-use Rattle.wire.specs.Fields.{lengthOf, kindOf, countOf, viewOf, senderOf, headerLength, timeoutLength, timeoutsHead, blockCertificateLength}
-use Rattle.wire.specs.Encode.{joined, timeoutBytes, headerBytes, blockCertificateBytes, timeoutsBytes, certificateBytes, encode}
+use Rattle.wire.specs.Fields.{countOf, voteLength, releaseLength, timeoutLength, timeoutsHead, proposalHead, blockCertificateLength}
+use Rattle.wire.specs.Encode.{joined, timeoutBytes, headerBytes, voteBytes, releaseBytes, proposalBytes, blockCertificateBytes, timeoutsBytes, certificateBytes, encode}
 use Rattle.wire.specs.Content.{Certificate, byBlock, byTimeouts, certificateOf, Content, certificate, content}
 use Rattle.wire.specs.Fit.{All, IsU16, TimeoutFits, CertificateFits, TimeoutsProper, CertificateProper, Fits}
 use Rattle.wire.proofs.Tables.{Stands, stands-encode, length-stands, length-row, bytes-encode, framed-stands}
@@ -74,6 +78,48 @@ unfolding joined
 joined-append [] m = refl
 joined-append (s ∷ l) m = ap (λ (k : List ℕ). s ++ k) (joined-append l m) ∙ sym (append-assoc s (joined l) (joined m))
 
--- a record as long as its length field says, with a header
+-- ---- a record as long as its length field says, with a header
+header-framed : (r : List ℕ) (size kind sender : ℕ) (rest : List ℕ) → r ≡ headerBytes size kind sender ++ rest → size < 2 ^ 32 → 8 ≤ size → length r ≡ size → Framed r
+unfolding headerBytes leBytes part
+header-framed r size kind sender rest e small high long =
+    let first : part (headerBytes size kind sender ++ rest) 0 4 ≡ leBytes 4 size = refl in
+    (omega (arith, long), ap (λ (s : List ℕ). leNat (part s 0 4)) e ∙ ap leNat first ∙ leNat-leBytes 4 size (omega (arith, small)) ∙ sym long)
+
+pub vote-framed : (kind sender v : ℕ) (x : List ℕ) → length x ≡ nameLength → Framed (voteBytes kind sender v x)
+unfolding voteBytes
+vote-framed kind sender v x h =
+    header-framed _ voteLength kind sender (leBytes 8 v ++ x) (simp append-assoc) (omega arith) (omega arith) (simp (length-append, length-header, length-leBytes, h))
+
+pub release-framed : (sender v : ℕ) (x : List ℕ) (h : ℕ) → length x ≡ nameLength → Framed (releaseBytes sender v x h)
+unfolding releaseBytes
+release-framed sender v x h e =
+    header-framed _ releaseLength 9 sender (leBytes 8 v ++ x ++ leBytes 8 h) (simp append-assoc) (omega arith) (omega arith) (simp (length-append, length-header, length-leBytes, e))
+
+pub block-framed : (sender v : ℕ) (x : List ℕ) (g : ℕ) → length x ≡ nameLength → Framed (blockCertificateBytes sender v x g)
+unfolding blockCertificateBytes
+block-framed sender v x g e =
+    header-framed _ blockCertificateLength 3 sender (leBytes 8 v ++ x ++ leBytes 8 g) (simp append-assoc) (omega arith) (omega arith) (simp (length-append, length-header, length-leBytes, e))
+
+pub timeouts-framed : (sender v : ℕ) (row : List ℕ) → length row ≤ entryRoom → Framed (timeoutsBytes sender v row)
+unfolding timeoutsBytes
+timeouts-framed sender v row h =
+    header-framed _ (timeoutsHead + length row) 6 sender (leBytes 8 v ++ leBytes 2 (length row / timeoutLength) ++ leBytes 6 0 ++ row) (simp append-assoc) (omega (arith, h)) (omega arith)
+    (length-timeouts sender v row)
+
+pub proposal-framed : (sender v : ℕ) (x y : List ℕ) (h : ℕ) (r : List ℕ) → length x ≡ nameLength → length y ≡ nameLength → length r ≤ entryRoom → Framed (proposalBytes sender v x y h r)
+unfolding proposalBytes
+proposal-framed sender v x y h r a b e =
+    let long : length (proposalBytes sender v x y h r) ≡ proposalHead + length r = simp (length-append, length-header, length-leBytes, a, b) (omega arith) in
+    header-framed _ (proposalHead + length r) 7 sender (leBytes 8 v ++ x ++ y ++ leBytes 8 h ++ r) (simp append-assoc) (omega (arith, e)) (omega arith) long
+
+pub encode-framed : (q : Content) → Fits q → Framed (encode q)
+encode-framed q f = framed-stands (encode q) q (stands-encode q f)
+
+-- another sender leaves the length and what the header says of it
+pub sender-framed : (j : ℕ) (r : List ℕ) → Framed r → Framed (withSender j r)
+sender-framed j r f =
+    let l = length-patch r 6 (leBytes 2 j) in
+    (omega (arith, l, f .0), ap leNat (part-before r 6 (leBytes 2 j) 0 4 (omega arith)) ∙ f .1 ∙ sym l)
+
 pub sent-framed : (n : ℕ) (r : List ℕ) → Sent n r → Framed r
-sent-framed n r s = subst Framed (sym (s .is)) (framed-stands (encode (s .says)) (s .says) (stands-encode (s .says) (s .fits)))
+sent-framed n r s = subst Framed (sym (s .is)) (encode-framed (s .says) (s .fits))

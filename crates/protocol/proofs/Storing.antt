@@ -59,7 +59,7 @@ in-take (suc k) (c ∷ l) b (inr p) = inr (in-take k l b p)
 pub held-typed : (W : Work) → Regular W → (b : Block) → In b (blocks W) → BlockTyped b
 held-typed W r b p = typed-in (W .store) b (r .typed .store) (in-take (blockCountOf (W .memory)) (W .store) b p)
 
-row-typed : (W : Work) → Regular W → (row : List Block) → AllIn row (blocks W) → All BlockTyped row
+pub row-typed : (W : Work) → Regular W → (row : List Block) → AllIn row (blocks W) → All BlockTyped row
 unfolding All
 row-typed W r [] a = tt
 row-typed W r (c ∷ row) a = (held-typed W r c (a .0), row-typed W r row (a .1))

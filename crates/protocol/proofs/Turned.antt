@@ -11,12 +11,15 @@ use Rattle.codec.specs.Names.{sameBytes}
 use Rattle.codec.proofs.Order.{same-eq}
 use Rattle.wire.specs.Encode.{timeoutBytes, blockCertificateBytes, encode, joined, releaseBytes}
 use Rattle.wire.specs.Content.{certificateOf, timeout}
-use Rattle.wire.specs.Fit.{All, Fits}
+use Rattle.wire.specs.Fields.{timeoutLength}
+use Rattle.wire.specs.Fit.{IsName, All, CertificateFits, Fits}
+use Rattle.wire.proofs.Facts.{Framed}
 use Rattle.blocks.specs.declared.Block.{Block}
 use Rattle.blocks.specs.Store.{held, ancestry, releases}
-use Rattle.blocks.proofs.Linked.{In, held-in}
+use Rattle.blocks.proofs.Linked.{In, held-in, ancestry-last}
 use Rattle.memory.specs.Layout.{voteRow, commitRow, timeoutRow}
-use Rattle.memory.specs.Kept.{keptCount, tally}
+use Rattle.memory.specs.Kept.{keptCount, gathered, tally}
+use Rattle.memory.proofs.Rows.{gathered-le}
 use Rattle.memory.specs.Formed.{formed}
 use Rattle.memory.proofs.Apart.{votes, commits, timeouts, row-fits}
 use Rattle.memory.proofs.Entering.{Windowed}
@@ -24,25 +27,33 @@ use Rattle.counters.specs.Counters.{timing, releasing}
 use Rattle.safety.specs.Certificates as Safety
 use Rattle.safety.specs.Cluster.{HighVoted, Direct}
 use Rattle.protocol.specs.Work.{Work, settings, n, own, viewNow, timed, tip, blocks, heldBlock, keepTimeout, ownTimeout, sendTimeout, release}
+use Rattle.protocol.specs.Typed.{BlockTyped}
 use Rattle.protocol.specs.Refusals.{viewOfProgress}
 use Rattle.protocol.specs.Events.{progress}
 use Rattle.protocol.specs.Rules.{settle}
 use Rattle.protocol.specs.Applies.{AppliesA, AppliesB, AppliesC, AppliesD, runA, runB, runC, runD, signersFor, Turn, byA, byB, byC, byD, Turns, rest, turn}
 use Rattle.protocol.proofs.Regular.{Regular}
-use Rattle.protocol.proofs.Actions.{own-timeout-fits}
-use Rattle.protocol.proofs.Forms.{form-view}
-use Rattle.protocol.proofs.FormedRead.{formed-read, block-view}
+use Rattle.protocol.proofs.Actions.{own-timeout-fits, timeout-regular, release-regular}
+use Rattle.protocol.proofs.Rules.{progress-regular, held-block-typed}
+use Rattle.protocol.proofs.Forms.{form-view, form-fits, formed-form, block-form, tally-u64}
+use Rattle.protocol.proofs.FormedRead.{formed-read, block-view, block-read}
 use Rattle.protocol.proofs.Advance.{timeout-window, ballot-window}
 use Rattle.protocol.proofs.Backed.{backed-entry, entry-name}
 use Rattle.protocol.proofs.LoopD.{applied-in}
 use Rattle.protocol.proofs.Loop.{settle-is-the-loop}
 use Rattle.protocol.proofs.World.{Name, World, R, size, Real}
-use Rattle.protocol.proofs.Records.{joined-more, joined-append}
-use Rattle.protocol.proofs.Steps.{size-is, few}
+use Rattle.protocol.proofs.Records.{joined-more, joined-append, encode-framed, release-framed, block-framed, timeouts-framed}
+use Rattle.protocol.proofs.Steps.{size-is, few, all-more, all-one}
 use Rattle.protocol.proofs.Acts.{timed-real}
-use Rattle.protocol.proofs.Storing.{written, release-real}
-use Rattle.protocol.proofs.Going.{all-left, all-right, all-head, Shown, shown-as, Sound, Seen, TakenAt, progress-went}
+use Rattle.protocol.proofs.Storing.{held-typed, row-typed, release-real}
+use Rattle.protocol.proofs.Going.{framed-more, all-left, all-right, all-head, Shown, shown-as, Sound, Seen, TakenAt, progress-went}
 use Rattle.protocol.proofs.Formed.{formed-taken, block-taken, direct}
+
+-- releases of typed blocks are whole records
+releases-framed : (j v : ℕ) (row : List Block) → All BlockTyped row → All Framed (map (λ (c : Block). releaseBytes j v (c .name) (c .height .0)) row)
+unfolding All
+releases-framed j v [] a = tt
+releases-framed j v (c ∷ row) a = (release-framed j v (c .name) (c .height .0) (a .0 .name .size), releases-framed j v row (a .1))
 
 held-tip : (tip : Block) (store : List Block) (x : Name) → sameBytes (tip .name) x ≡ true → held tip store x .block .name ≡ x
 unfolding held
@@ -50,7 +61,7 @@ held-tip tip store x e = rw e (same-eq (tip .name) x e)
 
 module _ (set : Settings) (w : World) (H : HighVoted (R set w)) (i : ℕ) (l₀ : List (List ℕ)) where
   -- ---- a timeout is sent
-  module _ (v : ℕ) (W : Work) (S : Sound set w i l₀ W) where
+  module _ (v : ℕ) (W : Work) (reg : Regular W) (S : Sound set w i l₀ W) where
     abbrev q : List ℕ
     q = timeoutBytes (ownTimeout W v)
 
@@ -62,6 +73,10 @@ module _ (set : Settings) (w : World) (H : HighVoted (R set w)) (i : ℕ) (l₀ 
     unfolding sendTimeout keepTimeout
     timeout-out = refl
 
+    q-framed : v < lastView → Framed q
+    unfolding encode Fits
+    q-framed small = encode-framed (timeout (ownTimeout W v)) (own-timeout-fits W v (omega (arith, small)) reg)
+
     did : (a : Seen set w i l₀ S) → v < lastView → Shown w i q → w .TimedOut i (Safety.content (ownTimeout W v))
     unfolding encode Fits
     did a small z = shown-as w i (timeout (ownTimeout W v)) (own-timeout-fits W v (omega (arith, small)) (S .real a .regular)) z
@@ -69,6 +84,7 @@ module _ (set : Settings) (w : World) (H : HighVoted (R set w)) (i : ℕ) (l₀ 
     pub timeout-sound : v < lastView → timed W < v → Windowed timeouts (viewNow W) v → Sound set w i l₀ (sendTimeout v W)
     timeout-sound small late in-window = record {
       made = S .made ++ (q ∷ []);
+      framed = framed-more (S .made) q (S .framed) (q-framed small);
       out-is = timeout-out ∙ ap (λ (o : List ℕ). o ++ q) (S .out-is) ∙ sym (joined-more (S .made) q);
       real = λ a.
           let b = all-left (Shown w i) (S .made) (q ∷ []) a in
@@ -79,11 +95,11 @@ module _ (set : Settings) (w : World) (H : HighVoted (R set w)) (i : ℕ) (l₀ 
     }
 
   -- ---- what applies, in the words of the invariant
-  module _ (W : Work) (S : Sound set w i l₀ W) where
+  module _ (W : Work) (reg : Regular W) (S : Sound set w i l₀ W) where
     A-sound : (v : ℕ) → AppliesA v W → Sound set w i l₀ (runA v W)
     A-sound v a =
         let k = timeout-window (viewNow W) v (a .window) in
-        timeout-sound v W S (k .below) (a .untimed) (record { first = k .from; last = k .to })
+        timeout-sound v W reg S (k .below) (a .untimed) (record { first = k .from; last = k .to })
 
     low : (a : Seen set w i l₀ S) → own W < 2 ^ 16
     low a = omega (arith, S .real a .regular .member, S .real a .regular .few)
@@ -118,8 +134,9 @@ module _ (set : Settings) (w : World) (H : HighVoted (R set w)) (i : ℕ) (l₀ 
         (subst (λ (t : Settings). blockQuorum t ≤ tally (W .memory) (voteRow v) x (replicas t) .count) s (a .enough)))
 
     -- a certificate formed of view v, which its record says
-    progress-sound : (v : ℕ) (r : List ℕ) → viewOfProgress (certificateOf r) ≡ v → (Seen set w i l₀ S → TakenAt set w v r) → Sound set w i l₀ (progress r W)
-    progress-sound v r e F = progress-went set w i l₀ r W S (λ z. rw e (F z)) .sound
+    progress-sound : (v : ℕ) (r : List ℕ) → viewOfProgress (certificateOf r) ≡ v → (Seen set w i l₀ S → TakenAt set w v r) → Framed r → CertificateFits (certificateOf r)
+        → Sound set w i l₀ (progress r W)
+    progress-sound v r e F whole fit = progress-went set w i l₀ r W S (λ z. rw e (F z)) whole fit .sound
 
     -- the block that is released has the name that was decided
     held-name : (v : ℕ) (x : Name) → AppliesD v x W → heldBlock W x .block .name ≡ x
@@ -142,6 +159,13 @@ module _ (set : Settings) (w : World) (H : HighVoted (R set w)) (i : ℕ) (l₀ 
     abbrev rows : ℕ → Name → List (List ℕ)
     rows v x = map (λ (c : Block). releaseBytes (own W) v (c .name) (c .height .0)) (ancestry (tip W) (blocks W) (heldBlock W x .block))
 
+    rows-framed : (v : ℕ) (x : Name) → AppliesD v x W → All Framed (rows v x)
+    rows-framed v x a =
+        let b = heldBlock W x .block in
+        let r = ancestry-last (tip W) (blocks W) b (a .leadsDown) in
+        releases-framed (own W) v (ancestry (tip W) (blocks W) b)
+        (rw (r .1 .0) (all-more BlockTyped (r .0) (b ∷ []) (row-typed W reg (r .0) (r .1 .1)) (all-one BlockTyped b (held-typed W reg b (applied-in v x W a)))))
+
     release-view : (v : ℕ) (b : Block) → viewNow (release v b W) ≡ viewNow W
     unfolding release releasing
     release-view v b = refl
@@ -156,6 +180,7 @@ module _ (set : Settings) (w : World) (H : HighVoted (R set w)) (i : ℕ) (l₀ 
         let b = heldBlock W x .block in
         record {
           made = S .made ++ rows v x;
+          framed = all-more Framed (S .made) (rows v x) (S .framed) (rows-framed v x a);
           out-is = release-out v x ∙ ap (λ (o : List ℕ). o ++ joined (rows v x)) (S .out-is) ∙ sym (joined-append (S .made) (rows v x));
           real = λ z.
               let y = all-left (Shown w i) (S .made) (rows v x) z in
@@ -171,17 +196,51 @@ module _ (set : Settings) (w : World) (H : HighVoted (R set w)) (i : ℕ) (l₀ 
   block-says : (W : Work) (v : ℕ) (x : Name) → AppliesC v x W → viewOfProgress (certificateOf (blockCertificateBytes (own W) v x (signersFor v W x))) ≡ v
   block-says W v x a = form-view W _ ∙ block-view (own W) v x (signersFor v W x) (ballot-window (viewNow W) v (a .window) .below)
 
-  -- ONE TURN, and any number of them
-  turn-sound : (W W′ : Work) → Turn W W′ → Sound set w i l₀ W → Sound set w i l₀ W′
-  turn-sound W W′ (byA v a) S = A-sound W S v (a .here)
-  turn-sound W W′ (byB v n a) S = progress-sound W S v _ (formed-view W v (a .here)) (B-taken W S v (a .here))
-  turn-sound W W′ (byC v x n m a) S = progress-sound W S v _ (block-says W v x (a .here)) (C-taken W S v x (a .here))
-  turn-sound W W′ (byD v x n m o a) S = D-sound W S v x (a .here)
+  -- the record formed is whole, and says a certificate that fits, on any content of the memory
+  formed-framed : (W : Work) → Regular W → (v : ℕ) → Framed (formed (W .memory) v (n W) (own W))
+  unfolding formed
+  formed-framed W reg v =
+      let row = gathered (W .memory) (timeoutRow v) timeoutLength 0 (n W) in
+      timeouts-framed (own W) v row (omega (arith, reg .few, gathered-le (W .memory) (timeoutRow v) timeoutLength 0 (n W) (n W) (omega arith) (omega (arith, row-fits timeouts v, reg .memory-long, reg .few))))
 
-  turns-sound : (W W′ : Work) → Turns W W′ → Sound set w i l₀ W → Sound set w i l₀ W′
-  turns-sound W W′ rest S = S
-  turns-sound W W′ (turn {W₁ = W₁} t more) S = turns-sound W₁ W′ more (turn-sound W W₁ t S)
+  formed-fit : (W : Work) → Regular W → (v : ℕ) → AppliesB v W → CertificateFits (certificateOf (formed (W .memory) v (n W) (own W)))
+  formed-fit W reg v a =
+      let f = formed-form (W .memory) v (n W) (own W) (reg .typed .memory) (reg .memory-long) (reg .few) (reg .member) (timeout-window (viewNow W) v (a .window) .below) in
+      form-fits (n W) (formed (W .memory) v (n W) (own W)) (f .bytes) (f .form)
+
+  voted-name : (W : Work) → Regular W → (v : ℕ) (x : Name) → AppliesC v x W → IsName x
+  voted-name W r v x a =
+      entry-name (W .memory) (voteRow v) (n W) x (r .few) (r .typed .memory) (omega (arith, row-fits votes v, r .memory-long)) (backed-entry (W .memory) (voteRow v) x (n W) (omega (arith, a .enough)))
+
+  block-fit : (W : Work) → Regular W → (v : ℕ) (x : Name) → AppliesC v x W → CertificateFits (certificateOf (blockCertificateBytes (own W) v x (signersFor v W x)))
+  unfolding CertificateFits
+  block-fit W r v x a =
+      let name = voted-name W r v x a in
+      let small = ballot-window (viewNow W) v (a .window) .below in
+      let word = tally-u64 (W .memory) (voteRow v) x (n W) (r .few) in
+      rw (block-read (own W) v x (signersFor v W x) (omega (arith, r .member, r .few)) small name word) (omega (arith, small), name, word)
+
+  turn-regular : (W W′ : Work) → Regular W → Turn W W′ → Regular W′
+  turn-regular W W′ r (byA v a) = timeout-regular W v (omega (arith, timeout-window (viewNow W) v (a .here .window) .below)) r .0
+  turn-regular W W′ r (byB v n a) =
+      progress-regular W _ (formed-form (W .memory) v _ (own W) (r .typed .memory) (r .memory-long) (r .few) (r .member) (timeout-window (viewNow W) v (a .here .window) .below)) r .0
+  turn-regular W W′ r (byC v x n m a) =
+      progress-regular W _ (block-form (own W) v x (signersFor v W x) (omega (arith, r .member, r .few)) (ballot-window (viewNow W) v (a .here .window) .below) (voted-name W r v x (a .here)) (tally-u64 (W .memory) (voteRow v) x _ (r .few)) _) r .0
+  turn-regular W W′ r (byD v x n m o a) = release-regular W v (heldBlock W x .block) (held-block-typed W x r) r .0
+
+  -- ONE TURN, and any number of them
+  turn-sound : (W W′ : Work) → Regular W → Turn W W′ → Sound set w i l₀ W → Sound set w i l₀ W′
+  turn-sound W W′ reg (byA v a) S = A-sound W reg S v (a .here)
+  turn-sound W W′ reg (byB v n a) S =
+      progress-sound W reg S v _ (formed-view W v (a .here)) (B-taken W reg S v (a .here)) (formed-framed W reg v) (formed-fit W reg v (a .here))
+  turn-sound W W′ reg (byC v x n m a) S =
+      progress-sound W reg S v _ (block-says W v x (a .here)) (C-taken W reg S v x (a .here)) (block-framed (own W) v x (signersFor v W x) (voted-name W reg v x (a .here) .size)) (block-fit W reg v x (a .here))
+  turn-sound W W′ reg (byD v x n m o a) S = D-sound W reg S v x (a .here)
+
+  turns-sound : (W W′ : Work) → Regular W → Turns W W′ → Sound set w i l₀ W → Sound set w i l₀ W′
+  turns-sound W W′ reg rest S = S
+  turns-sound W W′ reg (turn {W₁ = W₁} t more) S = turns-sound W₁ W′ (turn-regular W W₁ reg t) more (turn-sound W W₁ reg t S)
 
   -- THE RULES KEEP THE INVARIANT: their run is such turns
   pub settle-sound : (W : Work) → Regular W → Sound set w i l₀ W → Sound set w i l₀ (settle W)
-  settle-sound W r = turns-sound W (settle W) (settle-is-the-loop W r)
+  settle-sound W r = turns-sound W (settle W) r (settle-is-the-loop W r)
