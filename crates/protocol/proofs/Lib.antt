@@ -35,3 +35,4 @@ pub mod Telling
 pub mod Accepting
 pub mod Received
 pub mod Asked
+pub mod Calling

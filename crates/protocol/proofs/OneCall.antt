@@ -52,14 +52,14 @@ unfolding outcome
 reply-refuses r output (accepts W) a e = absurd (let z : _≡_ {A = ℕ} 0 1 = cc in omega arith)
 reply-refuses r output (refuses b) a e = ap refuses (let z : b ≡ a = cc in z)
 
-reply-accepts : (r : Replica) (output : List ℕ) (core : Answer Work) (k : ℕ) → outcome r output core .reply ≡ accepts k
+pub reply-accepts : (r : Replica) (output : List ℕ) (core : Answer Work) (k : ℕ) → outcome r output core .reply ≡ accepts k
     → (W : Work) × (core ≡ accepts W) × (length (W .out) ≡ k) × (left (outcome r output core) ≡ record { counters = W .counters; memory = W .memory; store = W .store })
 unfolding outcome
 reply-accepts r output (accepts W) k e = (W, refl, let z : length (W .out) ≡ k = cc in z, refl)
 reply-accepts r output (refuses b) k e = absurd (let z : _≡_ {A = ℕ} 0 1 = cc in omega arith)
 
 -- ---- refusal 2
-quiet-append : (a b : List Rule) → Quiet (a ++ b) → Quiet a × Quiet b
+pub quiet-append : (a b : List Rule) → Quiet (a ++ b) → Quiet a × Quiet b
 quiet-append [] b q = (tt, q)
 quiet-append (r ∷ a) b q = let p = quiet-append a b (q .1) in ((q .0, p .0), p .1)
 
@@ -146,7 +146,7 @@ pub regular-passes : (r : Replica) → RegularReplica r → Passes r
 regular-passes r R room h = off-judge (regionRules (begin r) room) tt tt .1 (regular-regions (begin r) room R h, refl)
 
 -- what is written does not matter
-begin-regular : (W : Work) → Regular W → RegularReplica (record { counters = W .counters; memory = W .memory; store = W .store })
+pub begin-regular : (W : Work) → Regular W → RegularReplica (record { counters = W .counters; memory = W .memory; store = W .store })
 begin-regular W R =
     regular-after W _ R (same-still W _ refl refl) (record { counters = R .typed .counters; memory = R .typed .memory; store = R .typed .store })
     (R .view-first) (R .view-last) (R .room) (R .entry)

@@ -23,7 +23,7 @@ use Rattle.counters.specs.declared.Counters.{Counters}
 use Rattle.safety.specs.Lists.{In}
 use Rattle.safety.specs.Count.{count}
 use Rattle.safety.specs.Rows.{Begins, Linked}
-use Rattle.safety.specs.Run.{Machine, Read, is-vote, is-commit, is-timeout, is-release, is-other, Earlier, births, row}
+use Rattle.safety.specs.Run.{Machine, Read, is-vote, is-commit, is-timeout, is-release, is-other, AllAllowed, Earlier, births, row}
 use Rattle.safety.specs.Certificates as Seen
 use Rattle.protocol.specs.Work.{Work, n}
 use Rattle.protocol.specs.Typed.{CountersTyped, BlockTyped}
@@ -129,6 +129,16 @@ stepGives (reopens f c k m own) = []
 unfoldable pub gives : Replica → Entry → List Block
 gives r e = cond (accepted (outcomeOf r e .reply)) (stepGives (e .step) ++ recordsGive (makes r e)) []
 
+-- what is handed over has the types of the interface: any bytes, any view of 64 bits, any name of 32 bytes
+abbrev pub StepTyped : Step → Type 0
+StepTyped (calls c) = CallTyped c
+StepTyped (reopens f c k m own) = Unit {0}
+
+-- "an opening that is refused"
+abbrev pub Refused : Step → Replica → Type 0
+Refused (calls c) r = Unit {0}
+Refused (reopens f c k m own) r = accepted (openingCall r f c k m own .reply) ≡ false
+
 -- a replica as a step machine: its records are bytes
 abbrev pub replicaMachine : Machine
 replicaMachine = record {
@@ -136,6 +146,7 @@ replicaMachine = record {
   Call = Entry;
   Item = List ℕ;
   Birth = Block;
+  Allowed = λ r e. StepTyped (e .step) × Refused (e .step) r;
   accepts = λ r e. accepted (outcomeOf r e .reply);
   next = λ r e. left (outcomeOf r e);
   makes = makes;
@@ -168,24 +179,9 @@ pub record Opened (set : Settings) (i : ℕ) (r : Replica) : Type 0 where
   pub opens : openingCore lent (set .f) (set .c) (set .k) (replicas set) i ≡ accepts work
   pub leaves : r ≡ record { counters = work .counters; memory = work .memory; store = work .store }
 
--- what is handed over has the types of the interface: any bytes, any view of 64 bits, any name of 32 bytes
-abbrev pub StepTyped : Step → Type 0
-StepTyped (calls c) = CallTyped c
-StepTyped (reopens f c k m own) = Unit {0}
-
--- "an opening that is refused"
-abbrev pub Refused : Step → Replica → Type 0
-Refused (calls c) r = Unit {0}
-Refused (reopens f c k m own) r = accepted (openingCall r f c k m own .reply) ≡ false
-
 module _ (set : Settings) (honest : ℕ → Bool) (σ : ℕ → Replica) where
   abbrev M : Machine
   M = replicaMachine
-
-  -- every opening in the list is refused where it stands: s are the replicas' states
-  abbrev pub AllRefused : (ℕ → Replica) → List (ℕ × Entry) → Type 0
-  AllRefused s [] = Unit {0}
-  AllRefused s (e ∷ l) = Refused (e .1 .step) (s (e .0)) × AllRefused (Rattle.safety.specs.Run.after M s (e .0) (e .1)) l
 
   module _ (run : List (ℕ × Entry)) where
     -- all births of the run
@@ -199,8 +195,8 @@ module _ (set : Settings) (honest : ℕ → Bool) (σ : ℕ → Replica) where
       pub opened : (i : ℕ) → T (honest i) → Opened set i (σ i)
       -- "Each entry names an honest box"; "The other boxes have no entries."
       pub on-honest : All (λ (e : ℕ × Entry). T (honest (e .0))) run
-      pub typed : All (λ (e : ℕ × Entry). StepTyped (e .1 .step)) run
-      pub refused : AllRefused σ run
+      -- every opening in the list is refused where it stands; what is handed over has its type
+      pub allowed : AllAllowed M σ run
       -- "For each accepted record in the list: ... that box made it earlier in the list; so too ...; and each honest signer ... earlier made the vote"
       pub earlier : Earlier M honest σ [] run
       -- "by premise no two of these differ"

@@ -14,7 +14,7 @@ use Rattle.wire.proofs.Slots.{all-impl}
 use Rattle.safety.specs.Lists.{In}
 use Rattle.safety.specs.Cluster.{Cluster, EachHonest, EnoughHonest, HighVoted}
 use Rattle.safety.specs.Rows.{Begins, OneParent, firsts, Linked}
-use Rattle.safety.specs.Run.{Machine, Log, tag, own, after, end, log, births, Earlier, StepKeeps, Read, made, Did, cluster, row, AtEnd, Keeps}
+use Rattle.safety.specs.Run.{AllAllowed, Machine, Log, tag, own, after, end, log, births, Earlier, StepKeeps, Read, made, Did, cluster, row, AtEnd, Keeps}
 use Rattle.safety.proofs.Lists.{in-left, in-right, in-append}
 use Rattle.safety.proofs.Rows.{begins-equal, shorter-begins, number-begins, released-linked}
 use Rattle.safety.proofs.Trace.{high-votes, lawful}
@@ -63,11 +63,11 @@ module _ (M : Machine) where
 module _ (M : Machine) (honest : ℕ → Bool) where
   -- ---- THE INDUCTION over a run
   module _ (F : Log M) (B : List (M .Birth)) (P : ℕ → List (M .Item) → M .State → Type 0) where
-    pub by-replica : StepKeeps M honest F B P → (r : List (ℕ × M .Call)) (σ : ℕ → M .State) (L : Log M) → log M σ L r ≡ F → ((b : M .Birth) → In b (births M σ r) → In b B) → Earlier M honest σ L r
+    pub by-replica : StepKeeps M honest F B P → (r : List (ℕ × M .Call)) (σ : ℕ → M .State) (L : Log M) → log M σ L r ≡ F → ((b : M .Birth) → In b (births M σ r) → In b B) → Earlier M honest σ L r → AllAllowed M σ r
         → ((i : ℕ) → T (honest i) → P i (own M i L) (σ i)) → (i : ℕ) → T (honest i) → P i (own M i F) (end M σ r i)
-    by-replica step [] σ L e g h p = λ i t. rw (← e) (p i t)
-    by-replica step (a ∷ r) σ L e g h p =
-        by-replica step r (after M σ (a .0) (a .1)) (L ++ new) e (λ b q. g b (in-right b (M .gives (σ (a .0)) (a .1)) (births M (after M σ (a .0) (a .1)) r) q)) (h .1)
+    by-replica step [] σ L e g h f p = λ i t. rw (← e) (p i t)
+    by-replica step (a ∷ r) σ L e g h f p =
+        by-replica step r (after M σ (a .0) (a .1)) (L ++ new) e (λ b q. g b (in-right b (M .gives (σ (a .0)) (a .1)) (births M (after M σ (a .0) (a .1)) r) q)) (h .1) (f .1)
         (λ j t. go j t (eqb (a .0) j) refl)
       where
         new : Log M
@@ -77,7 +77,7 @@ module _ (M : Machine) (honest : ℕ → Bool) where
         into x q = rw (← e) (in-log M x (after M σ (a .0) (a .1)) (L ++ new) r q)
 
         mine : T (honest (a .0)) → P (a .0) (own M (a .0) L ++ M .makes (σ (a .0)) (a .1)) (M .next (σ (a .0)) (a .1))
-        mine t = step (a .0) t (own M (a .0) L) (σ (a .0)) (a .1) (p (a .0) t)
+        mine t = step (a .0) t (own M (a .0) L) (σ (a .0)) (a .1) (f .0) (p (a .0) t)
             (λ ok. all-impl _ _ (M .says (σ (a .0)) (a .1)) (λ x k q. into x (in-left x L new (k q))) (h .0 ok))
             (λ q k. into (a .0, q) (in-right (a .0, q) L new (in-tag M (a .0) q (M .makes (σ (a .0)) (a .1)) k)))
             (λ b k. g b (in-left b (M .gives (σ (a .0)) (a .1)) (births M (after M σ (a .0) (a .1)) r) k))
@@ -100,15 +100,15 @@ module _ (M : Machine) (set : Settings) (honest : ℕ → Bool) {Name : Type 0} 
   pub did : (i : ℕ) (q : M .Item) → In (i, q) (log M σ [] r) → Did M σ r reads i (reads q)
   did i q p = (q, in-own M i q (log M σ [] r) p, refl)
 
-  module _ (genesis : Name) (E : Earlier M honest σ [] r) (K : Keeps M set honest reads child parent σ r genesis) where
+  module _ (genesis : Name) (E : Earlier M honest σ [] r) (A : AllAllowed M σ r) (K : Keeps M set honest reads child parent σ r genesis) where
     -- the two passes over the run
     honest-high : HighVoted R
     honest-high = high-votes R (λ n l h. K .own-end n l h (end M σ r n)
-        (by-replica M honest (log M σ [] r) (births M σ r) (K .Own) (K .own-step) r σ [] refl (λ b q. q) E (K .own-open) n h))
+        (by-replica M honest (log M σ [] r) (births M σ r) (K .Own) (K .own-step) r σ [] refl (λ b q. q) E A (K .own-open) n h))
 
     at-end : EachHonest R (AtEnd M set honest reads child parent σ r genesis)
     at-end n l h = K .backed-end n l h (end M σ r n)
-        (by-replica M honest (log M σ [] r) (births M σ r) (K .Backed) (K .backed-step honest-high) r σ [] refl (λ b q. q) E (K .backed-open) n h)
+        (by-replica M honest (log M σ [] r) (births M σ r) (K .Backed) (K .backed-step honest-high) r σ [] refl (λ b q. q) E A (K .backed-open) n h)
 
     -- a row begins at genesis, with heights 1, 2, 3 and on
     pub row-linked : EachHonest R (λ i. Linked (R .Parent) 1 genesis (rowOf i))

@@ -18,6 +18,8 @@ pub record Machine : Type 1 where
   pub Call : Type 0
   pub Item : Type 0
   pub Birth : Type 0
+  -- which calls a run may hold at a state, whatever the records in them say
+  pub Allowed : State → Call → Type 0
   pub accepts : State → Call → Bool
   pub next : State → Call → State
   -- the records that the call writes, in order
@@ -52,6 +54,11 @@ module _ (M : Machine) where
   log σ L [] = L
   log σ L (e ∷ r) = log (after σ (e .0) (e .1)) (L ++ tag (e .0) (M .makes (σ (e .0)) (e .1))) r
 
+  -- every call of the list is allowed where it stands
+  abbrev pub AllAllowed : (ℕ → M .State) → List (ℕ × M .Call) → Type 0
+  AllAllowed σ [] = Unit {0}
+  AllAllowed σ (e ∷ r) = M .Allowed (σ (e .0)) (e .1) × AllAllowed (after σ (e .0) (e .1)) r
+
   abbrev pub births : (ℕ → M .State) → List (ℕ × M .Call) → List (M .Birth)
   births σ [] = []
   births σ (e ∷ r) = M .gives (σ (e .0)) (e .1) ++ births (after σ (e .0) (e .1)) r
@@ -68,7 +75,7 @@ module _ (M : Machine) (honest : ℕ → Bool) where
   -- its state. "Made earlier" is weakened to "made in the run".
   module _ (F : Log M) (B : List (M .Birth)) (P : ℕ → List (M .Item) → M .State → Type 0) where
     abbrev pub StepKeeps : Type 0
-    StepKeeps = (i : ℕ) → T (honest i) → (l : List (M .Item)) (s : M .State) (c : M .Call) → P i l s
+    StepKeeps = (i : ℕ) → T (honest i) → (l : List (M .Item)) (s : M .State) (c : M .Call) → M .Allowed s c → P i l s
         → (T (M .accepts s c) → All (λ (a : ℕ × M .Item). T (honest (a .0)) → In a F) (M .says s c))
         → ((q : M .Item) → In q (M .makes s c) → In (i, q) F)
         → ((b : M .Birth) → In b (M .gives s c) → In b B)
