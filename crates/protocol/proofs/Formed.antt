@@ -68,7 +68,7 @@ pub is-true : (b : Bool) → T b → b ≡ true
 is-true true t = refl
 is-true false t = absurd t
 
-pow-positive : (k : ℕ) → 0 < 2 ^ k
+pub pow-positive : (k : ℕ) → 0 < 2 ^ k
 pow-positive zero = omega arith
 pow-positive (suc k) = omega (arith, pow-positive k)
 

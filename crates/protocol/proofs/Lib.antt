@@ -36,3 +36,5 @@ pub mod Accepting
 pub mod Received
 pub mod Asked
 pub mod Calling
+pub mod Keeping
+pub mod Demand3
