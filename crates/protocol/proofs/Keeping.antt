@@ -53,7 +53,7 @@ abbrev pub Keeping : Settings → World → ℕ → List (List ℕ) → Replica 
 Keeping set w i l r = Real set w i (viewNow (begin r)) (begin r) l
 
 -- what was written is no part of it
-forget-out : (set : Settings) (w : World) (i : ℕ) (l : List (List ℕ)) (W : Work) → Real set w i (viewNow W) W l
+pub forget-out : (set : Settings) (w : World) (i : ℕ) (l : List (List ℕ)) (W : Work) → Real set w i (viewNow W) W l
     → Keeping set w i l (record { counters = W .counters; memory = W .memory; store = W .store })
 forget-out set w i l W X = record {
   regular = begin-regular W (X .regular);

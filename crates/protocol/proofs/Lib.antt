@@ -38,3 +38,4 @@ pub mod Asked
 pub mod Calling
 pub mod Keeping
 pub mod Demand3
+pub mod Whole

@@ -6,4 +6,5 @@ pub mod Rules
 pub mod Applies
 pub mod Calls
 pub mod OneCall
+pub mod Whole
 pub mod OneChain
