@@ -5,6 +5,7 @@ use mathlib.Core.Bool.{Bool, true, false, cond, false≢true}
 use mathlib.Core.List.{List, [], _∷_, _++_}
 use mathlib.Core.Logic.{_⊎_, inl, inr, ⊎-elim}
 use mathlib.Core.Path.{_≡_, refl, sym, ap, subst, _∙_}
+use native.Mathlib.Omega.{arith}
 use lib.Dec.{T}
 use lib.ListN.{length}
 use Rattle.settings.specs.declared.Settings.{Settings}
@@ -21,8 +22,10 @@ use Rattle.safety.specs.Lists.{In}
 use Rattle.safety.specs.Cluster.{Cluster, HighVoted, EnoughHonest}
 use Rattle.safety.specs.Rows.{firsts, OneParent, nothing, up-to, Released}
 use Rattle.safety.proofs.Lists.{in-right, in-append, in-all}
-use Rattle.safety.specs.Run.{Log, AllAllowed, tag, own, after, log, births, made, cluster, AtEnd, Keeps}
-use Rattle.safety.proofs.Run.{in-tag, in-own, in-log, by-replica, row-linked, one-chain, one-length}
+use Rattle.safety.specs.Run.{is-vote, is-commit, Log, AllAllowed, tag, own, after, log, births, made, cluster, AtEnd, Keeps}
+use Rattle.safety.proofs.Rank.{needed-honest}
+use Rattle.safety.proofs.Safety.{some-honest}
+use Rattle.safety.proofs.Run.{run-lawful, in-tag, in-own, in-log, by-replica, row-linked, one-chain, one-length}
 use Rattle.safety.proofs.Match.{traced}
 use Rattle.protocol.specs.Work.{Work, n}
 use Rattle.protocol.specs.Refusals.{regionRules, refusals}
@@ -49,6 +52,17 @@ passes-named m (release j v x h) k b q z = q
 
 sent-named : (m : ℕ) (r : List ℕ) → Sent m r → (b : Block) → In b (recordGives (content r)) → b .name ≡ zeroName → ⊥
 sent-named m r S b p z = passes-named m (S .says) (S .passes) b (subst (λ (c : Content). In b (recordGives c)) (ap content (S .is) ∙ read-written (S .says) (S .fits)) p) z
+
+-- a vote that it made is for a name
+not-zero : (m : ℕ) (c : Content) → Passes m c → (v : ℕ) → readOf c ≡ is-vote v zeroName → ⊥
+unfolding Proper
+not-zero m (vote s u x) k v e = k (let z : x ≡ zeroName = cc in z)
+not-zero m (commit s u x) k v e = let z : _≡_ {A = ℕ} 0 1 = cc in absurd (omega arith)
+not-zero m (certificate s c) k v e = let z : _≡_ {A = ℕ} 0 1 = cc in absurd (omega arith)
+not-zero m (timeout t) k v e = let z : _≡_ {A = ℕ} 0 1 = cc in absurd (omega arith)
+not-zero m (proposal s u x y h c) k v e = let z : _≡_ {A = ℕ} 0 1 = cc in absurd (omega arith)
+not-zero m (block s x y h) k v e = k
+not-zero m (release s u x h) k v e = let z : _≡_ {A = ℕ} 0 1 = cc in absurd (omega arith)
 
 all-named : (m : ℕ) (l : List (List ℕ)) → ((r : List ℕ) → In r l → Sent m r) → (b : Block) → In b (recordsGive l) → b .name ≡ zeroName → ⊥
 all-named m [] f b p z = p
@@ -201,6 +215,18 @@ module _ (set : Settings) (honest : ℕ → Bool) (σ : ℕ → Replica) (run : 
       one = λ x y z p q. sym (p .3) ∙ P .one-birth (p .0) (q .0) (p .1) (q .1) (p .2 ∙ sym (q .2)) .0 ∙ q .3;
       top = λ y p. born-named run σ [] refl (P .allowed) (P .on-honest) (p .0) (p .1) (p .2);
     }
+
+    -- ---- the premises rule out the one record that would not pass 5: a commit for the zero name
+    vote-named : (q : List ℕ) → Sent (replicas set) q → (v : ℕ) → reads q ≡ is-vote v zeroName → ⊥
+    vote-named q S v e = not-zero (replicas set) (S .says) (S .passes) v (sym (ap readOf (ap content (S .is) ∙ read-written (S .says) (S .fits))) ∙ e)
+
+    pub no-zero-commit : (i : ℕ) → T (honest i) → (q : List ℕ) → In q (made replicaMachine σ run i) → (v : ℕ) → reads q ≡ is-commit v zeroName → ⊥
+    no-zero-commit i h q p v e =
+        let L = run-lawful replicaMachine set honest reads (λ b. b .name) (λ b. b .parent) σ run zeroName (P .earlier) (P .allowed) keeps (P .enough) in
+        let c = L .commit-why i (P .numbers i h) h v zeroName (q, p, e) .signed in
+        let w = some-honest RunCluster L (c .signers) (omega (arith, c .enough, needed-honest set true)) in
+        let d = c .truly (w .at) (w .below) (w .honest) (w .inside) in
+        vote-named (d .0) (in-all (Sent (replicas set)) (d .0) (own replicaMachine (w .at) F) (all-sent (w .at) (w .honest)) (d .1)) v (d .2)
 
     chain : OneChain set honest σ run
     chain = record {

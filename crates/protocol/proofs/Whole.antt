@@ -18,13 +18,17 @@ use Rattle.wire.specs.Fit.{All, Fits}
 use Rattle.wire.proofs.Slots.{all-impl}
 use Rattle.wire.proofs.ReadBack.{read-written, shape-written, release-written}
 use Rattle.safety.specs.Cluster.{HighVoted}
-use Rattle.protocol.specs.Work.{Work, n}
+use Rattle.blocks.specs.declared.Block.{Block}
+use Rattle.blocks.specs.Store.{descends}
+use Rattle.blocks.proofs.Linked.{In}
+use Rattle.protocol.specs.Work.{Work, n, tip, blocks}
 use Rattle.protocol.specs.Calls.{Replica, begin, Outcome, outcome}
 use Rattle.protocol.specs.OneCall.{Call, CallTyped, callOn, left, Handing, HandingTyped, after}
 use Rattle.protocol.specs.Whole.{ZeroCommit, WholeRecord}
 use Rattle.protocol.specs.OneChain.{calls, written, stepSays, stepGives, Opened}
 use Rattle.protocol.proofs.OneCall.{coreOf, call-is}
 use Rattle.protocol.proofs.World.{World, R, size, Passes, Sent}
+use Rattle.protocol.proofs.Chain.{stored-descends}
 use Rattle.protocol.proofs.Going.{ShownAs, Shown, all-right}
 use Rattle.protocol.proofs.Telling.{Told, Says}
 use Rattle.protocol.proofs.Calling.{core-sound}
@@ -109,6 +113,14 @@ module _ (set : Settings) (i : ℕ) where
   -- WHAT HOLDS OF A REPLICA that was opened as number i, on any list of calls
   pub always : (r : Replica) → Opened set i r → (ts : List Handing) → All HandingTyped ts → (m : List (List ℕ)) × Keeping set lone-world i m (after r ts)
   always r O ts h = lone-calls [] r ts h (opened-keeping set lone-world i r O)
+
+  -- so rule D's test that a held block leads to the tip always passes: what is held and isn't the tip descends from it
+  pub always-leads : (r : Replica) → Opened set i r → (ts : List Handing) → All HandingTyped ts → (b : Block) → In b (blocks (begin (after r ts)))
+      → descends (tip (begin (after r ts))) (blocks (begin (after r ts))) b ≡ true
+  always-leads r O ts h b p =
+      let K = always r O ts h in
+      let W = begin (after r ts) in
+      stored-descends set lone-world (K .0) (tip W) (blocks W) (K .1 .chained) b p
 
   -- WHAT A CALL WRITES: whole records one after another
   pub writes-whole : (r : Replica) → Opened set i r → (ts : List Handing) → All HandingTyped ts → (output : List ℕ) (c : Call) → CallTyped c

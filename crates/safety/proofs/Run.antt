@@ -12,7 +12,7 @@ use Rattle.settings.specs.declared.Settings.{Settings}
 use Rattle.settings.specs.Quorum.{replicas}
 use Rattle.wire.proofs.Slots.{all-impl}
 use Rattle.safety.specs.Lists.{In}
-use Rattle.safety.specs.Cluster.{Cluster, EachHonest, EnoughHonest, HighVoted}
+use Rattle.safety.specs.Cluster.{Lawful, Cluster, EachHonest, EnoughHonest, HighVoted}
 use Rattle.safety.specs.Rows.{Begins, OneParent, firsts, Linked}
 use Rattle.safety.specs.Run.{AllAllowed, Machine, Log, tag, own, after, end, log, births, Earlier, StepKeeps, Read, made, Did, cluster, row, AtEnd, Keeps}
 use Rattle.safety.proofs.Lists.{in-left, in-right, in-append}
@@ -110,6 +110,10 @@ module _ (M : Machine) (set : Settings) (honest : ℕ → Bool) {Name : Type 0} 
     at-end n l h = K .backed-end n l h (end M σ r n)
         (by-replica M honest (log M σ [] r) (births M σ r) (K .Backed) (K .backed-step honest-high) r σ [] refl (λ b q. q) E A (K .backed-open) n h)
 
+    -- the run is lawful
+    pub run-lawful : EnoughHonest R → Lawful R
+    run-lawful many = lawful R (λ n l h. at-end n l h .0) many (λ n l h. at-end n l h .1)
+
     -- a row begins at genesis, with heights 1, 2, 3 and on
     pub row-linked : EachHonest R (λ i. Linked (R .Parent) 1 genesis (rowOf i))
     row-linked i l h = let a = at-end i l h in rw (a .3) (released-linked R genesis (firsts (rowOf i)) (a .2))
@@ -120,7 +124,7 @@ module _ (M : Machine) (set : Settings) (honest : ℕ → Bool) {Name : Type 0} 
     one-chain many one i li hi j lj hj short =
         let a = at-end i li hi in
         let b = at-end j lj hj in
-        let L = lawful R (λ n l h. at-end n l h .0) many (λ n l h. at-end n l h .1) in
+        let L = run-lawful many in
         number-begins 1 (rowOf i) (rowOf j) (a .3) (b .3)
         (shorter-begins R L genesis one (firsts (rowOf i)) (firsts (rowOf j)) (a .2) (b .2) (simp length-map short))
 
