@@ -6,7 +6,7 @@ use crate::replica::Replica;
 use crate::types::{Block, Height, Name, Refusal, View, Vote, GENESIS};
 use crate::wire::{self, Progress, Proposal, RawTimeout, TimeoutCertificate};
 
-type Judged = Result<(), Refusal>;
+pub(crate) type Judged = Result<(), Refusal>;
 
 /// A proposed block that may be taken: with the certificate that makes its parent safe, and whether it isn't held yet.
 pub(crate) struct Placed {

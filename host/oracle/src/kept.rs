@@ -117,10 +117,10 @@ impl BallotRows {
         &mut self.rows[(view.0 % 8) as usize]
     }
 
-    /// 01: "What leaves a window is dropped." Empties the rows of the views that come in.
+    /// 01: "What leaves a window is dropped." Empties the rows of the views that come in; their bytes become zero.
     pub fn advance(&mut self, from: View, to: View) {
         for back in 0..(to.0 - from.0).min(8) {
-            self.row_mut(View(to.0 + 3 - back)).given = 0;
+            *self.row_mut(View(to.0 + 3 - back)) = Ballots::EMPTY;
         }
     }
 }
@@ -177,7 +177,7 @@ impl TimeoutRows {
 
     pub fn advance(&mut self, from: View, to: View) {
         for back in 0..(to.0 - from.0).min(4) {
-            self.row_mut(View(to.0 + 3 - back)).given = 0;
+            *self.row_mut(View(to.0 + 3 - back)) = KeptTimeouts::EMPTY;
         }
     }
 }
@@ -190,12 +190,24 @@ pub struct EntryCertificate {
 }
 
 impl EntryCertificate {
-    const MOST: usize = wire::TIMEOUT_CERTIFICATE + wire::TIMEOUT * Settings::MAX_N;
+    /// The longest one: a timeout certificate of the largest cluster.
+    pub const MOST: usize = wire::TIMEOUT_CERTIFICATE + wire::TIMEOUT * Settings::MAX_N;
 
     pub(crate) const EMPTY: EntryCertificate = EntryCertificate { len: 0, bytes: [0; Self::MOST] };
 
+    /// One of this length in a place of these bytes, the left over ones behind it included; one longer than the place
+    /// is kept as none.
+    pub fn of(len: usize, bytes: [u8; Self::MOST]) -> EntryCertificate {
+        EntryCertificate { len: if len <= Self::MOST { len } else { 0 }, bytes }
+    }
+
     pub fn record(&self) -> &[u8] {
         &self.bytes[..self.len]
+    }
+
+    /// All bytes of its place.
+    pub fn place(&self) -> &[u8; Self::MOST] {
+        &self.bytes
     }
 
     /// Keeps this record; one longer than any certificate is kept as none.

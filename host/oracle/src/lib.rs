@@ -11,7 +11,9 @@ mod settings;
 mod store;
 mod types;
 
+pub mod lent;
 pub mod literal;
+pub mod regions;
 pub mod run;
 pub mod wire;
 

@@ -5,7 +5,7 @@ use std::collections::{BTreeMap, BTreeSet};
 use crate::certificate::Certificate;
 use crate::kept::BallotRows;
 use crate::replica::Replica;
-use crate::types::{Block, Name, View};
+use crate::types::{Block, Name, Reply, View};
 use crate::wire;
 
 enum Rule {
@@ -17,6 +17,28 @@ enum Rule {
 
 /// How often each of the rules A to D ran.
 pub type Ran = [u64; 4];
+
+/// The calls, with 01's loop after the event.
+pub fn record(replica: &mut Replica, bytes: &[u8], out: &mut Vec<u8>, ran: &mut Ran) -> Reply {
+    let start = out.len();
+    replica.record_event(bytes, out)?;
+    settle(replica, out, ran);
+    Ok(out.len() - start)
+}
+
+pub fn timer(replica: &mut Replica, view: View, out: &mut Vec<u8>, ran: &mut Ran) -> Reply {
+    let start = out.len();
+    replica.timer_event(view, out)?;
+    settle(replica, out, ran);
+    Ok(out.len() - start)
+}
+
+pub fn propose(replica: &mut Replica, name: Name, out: &mut Vec<u8>, ran: &mut Ran) -> Reply {
+    let start = out.len();
+    replica.propose_event(name, out)?;
+    settle(replica, out, ran);
+    Ok(out.len() - start)
+}
 
 /// "the first rule that applies is run, again and again"
 pub fn settle(replica: &mut Replica, out: &mut Vec<u8>, ran: &mut Ran) {

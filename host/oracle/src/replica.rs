@@ -2,11 +2,11 @@
 
 use crate::certificate::{Certificate, CertificateKind, Timeout};
 use crate::faults::Faults;
-use crate::judge::Placed;
+use crate::judge::{Judged, Placed};
 use crate::kept::{BallotRows, EntryCertificate, TimeoutRows};
 use crate::settings::{Protocol, Settings};
 use crate::store::Store;
-use crate::types::{Block, Name, Refusal, Reply, View, Vote};
+use crate::types::{Block, Name, Refusal, Reply, View, Vote, GENESIS};
 use crate::wire::{self, Progress, Record, TimeoutCertificate, Timeouts};
 
 /// 01: "The box's counters are one record that every call updates".
@@ -19,8 +19,8 @@ pub struct Counters {
     pub high_vote: Vote,
     /// The highest block certificate adopted.
     pub lock: Certificate,
-    /// The highest weak certificate adopted.
-    pub best_weak: Option<Certificate>,
+    /// The highest weak certificate adopted; one of view 0 is none.
+    pub best_weak: Certificate,
     /// The last block released.
     pub tip: Block,
 }
@@ -32,7 +32,7 @@ impl Counters {
         timed: View(0),
         high_vote: Vote::NONE,
         lock: Certificate::GENESIS,
-        best_weak: None,
+        best_weak: Certificate::weak(View(0), GENESIS, 0),
         tip: Block::GENESIS,
     };
 }
@@ -86,6 +86,11 @@ impl Replica {
         Replica { protocol, own, counters: Counters::OPENED, memory }
     }
 
+    /// A replica of any state, whether or not it is sound.
+    pub(crate) fn of(settings: Settings, own: u16, counters: Counters, memory: Box<Memory>) -> Replica {
+        Replica { protocol: Protocol::new(settings, Faults::NONE), own, counters, memory }
+    }
+
     pub fn settings(&self) -> Settings {
         self.protocol.settings
     }
@@ -100,8 +105,31 @@ impl Replica {
 
     /// The call "record" with any bytes. Output is appended to `out`. A refusal changes nothing.
     pub fn record(&mut self, bytes: &[u8], out: &mut Vec<u8>) -> Reply {
-        self.judge_regions()?;
         let start = out.len();
+        self.record_event(bytes, out)?;
+        self.settle(out);
+        Ok(out.len() - start)
+    }
+
+    /// The call "timer": the host's clock for a view ran out.
+    pub fn timer(&mut self, view: View, out: &mut Vec<u8>) -> Reply {
+        let start = out.len();
+        self.timer_event(view, out)?;
+        self.settle(out);
+        Ok(out.len() - start)
+    }
+
+    /// The call "propose".
+    pub fn propose(&mut self, name: Name, out: &mut Vec<u8>) -> Reply {
+        let start = out.len();
+        self.propose_event(name, out)?;
+        self.settle(out);
+        Ok(out.len() - start)
+    }
+
+    /// What a record does before the rules run, or its refusal.
+    pub(crate) fn record_event(&mut self, bytes: &[u8], out: &mut Vec<u8>) -> Judged {
+        self.judge_regions()?;
         match wire::read(bytes, self.settings().n())? {
             Record::Vote { sender, vote } => {
                 self.judge_ballot(&self.memory.votes, sender, vote)?;
@@ -135,31 +163,24 @@ impl Replica {
                 self.memory.store.push(block);
             }
         }
-        self.settle(out);
-        Ok(out.len() - start)
+        Ok(())
     }
 
-    /// The call "timer": the host's clock for a view ran out.
-    pub fn timer(&mut self, view: View, out: &mut Vec<u8>) -> Reply {
+    pub(crate) fn timer_event(&mut self, view: View, out: &mut Vec<u8>) -> Judged {
         self.judge_regions()?;
         self.judge_timer(view)?;
-        let start = out.len();
         self.send_timeout(view, out);
-        self.settle(out);
-        Ok(out.len() - start)
+        Ok(())
     }
 
-    /// The call "propose". 01: "build on the safe block of the entry certificate, send, and take the proposal as
-    /// one's own."
-    pub fn propose(&mut self, name: Name, out: &mut Vec<u8>) -> Reply {
+    /// 01: "build on the safe block of the entry certificate, send, and take the proposal as one's own."
+    pub(crate) fn propose_event(&mut self, name: Name, out: &mut Vec<u8>) -> Judged {
         self.judge_regions()?;
         let placed = self.judge_propose(name)?;
-        let start = out.len();
         let view = self.counters.view;
         wire::write_proposal(out, self.own, view, &placed.block, self.memory.entry.record());
         self.take_proposal(view, placed, out);
-        self.settle(out);
-        Ok(out.len() - start)
+        Ok(())
     }
 
     /// 01: "a block certificate above the lock becomes the lock; a weak one above the best weak replaces it."
@@ -172,8 +193,8 @@ impl Replica {
                 }
             }
             CertificateKind::Weak => {
-                if counters.best_weak.is_none_or(|best| certificate.outranks(&best)) {
-                    counters.best_weak = Some(certificate);
+                if certificate.outranks(&counters.best_weak) {
+                    counters.best_weak = certificate;
                 }
             }
         }
@@ -278,7 +299,12 @@ impl Replica {
 
     /// The higher of lock and best weak.
     pub fn highest_certificate(&self) -> Certificate {
-        let lock = self.counters.lock;
-        self.counters.best_weak.filter(|weak| self.protocol.outranks(weak, &lock)).unwrap_or(lock)
+        let Counters { lock, best_weak, .. } = self.counters;
+        let weak_is_higher = best_weak.view > View(0) && self.protocol.outranks(&best_weak, &lock);
+        if weak_is_higher {
+            best_weak
+        } else {
+            lock
+        }
     }
 }

@@ -57,7 +57,8 @@ fn write_line(
     writeln!(lines)
 }
 
-fn hex(bytes: &[u8]) -> String {
+/// `-` for no bytes.
+pub(crate) fn hex(bytes: &[u8]) -> String {
     if bytes.is_empty() {
         return "-".to_string();
     }
@@ -73,7 +74,7 @@ fn open(input: &[u8], faults: Faults) -> Option<(Replica, &[u8])> {
 }
 
 /// The five numbers of a well-formed kind 12.
-fn opening(record: &[u8]) -> Option<[u16; 5]> {
+pub(crate) fn opening(record: &[u8]) -> Option<[u16; 5]> {
     let well_formed = record.len() == wire::OPENING
         && wire::kind_of(record) == kind::OPENING
         && wire::sender_of(record) == 0
@@ -82,7 +83,7 @@ fn opening(record: &[u8]) -> Option<[u16; 5]> {
 }
 
 /// The next record by its length field and what follows; none if it is cut short, under 8 or over 3,696 bytes.
-fn cut(input: &[u8]) -> Option<(&[u8], &[u8])> {
+pub(crate) fn cut(input: &[u8]) -> Option<(&[u8], &[u8])> {
     if input.len() < wire::HEADER {
         return None;
     }
@@ -94,19 +95,23 @@ fn cut(input: &[u8]) -> Option<(&[u8], &[u8])> {
 /// One record as the run program takes it, whole and alone: kinds 10 and 11 are calls of their own, with sender 0;
 /// every other record goes to the replica.
 pub fn step(replica: &mut Replica, record: &[u8], out: &mut Vec<u8>) -> Reply {
+    judge_framing(record)?;
+    match wire::kind_of(record) {
+        kind::TIMER => replica.timer(View(wire::u64_at(record, 8)), out),
+        kind::PROPOSE => replica.propose(wire::name_at(record, 8), out),
+        _ => replica.record(record, out),
+    }
+}
+
+/// What the program itself refuses, before any call.
+pub(crate) fn judge_framing(record: &[u8]) -> Result<(), Refusal> {
     let Some((record, [])) = cut(record) else {
         return Err(Refusal::Length);
     };
     match wire::kind_of(record) {
-        kind::TIMER => {
-            judge_own_kind(record, wire::TIMER)?;
-            replica.timer(View(wire::u64_at(record, 8)), out)
-        }
-        kind::PROPOSE => {
-            judge_own_kind(record, wire::PROPOSE)?;
-            replica.propose(wire::name_at(record, 8), out)
-        }
-        _ => replica.record(record, out),
+        kind::TIMER => judge_own_kind(record, wire::TIMER),
+        kind::PROPOSE => judge_own_kind(record, wire::PROPOSE),
+        _ => Ok(()),
     }
 }
 

@@ -35,6 +35,16 @@ impl Store {
 
     pub(crate) const EMPTY: Store = Store { len: 0, blocks: [Block::GENESIS; Store::ROOM] };
 
+    /// So many held entries, and what stands behind them; none if that is more than the store has.
+    pub fn of(len: usize, blocks: [Block; Self::ROOM]) -> Option<Store> {
+        (len <= Self::ROOM).then_some(Store { len, blocks })
+    }
+
+    /// All entries, those left over behind the held ones included.
+    pub fn entries(&self) -> &[Block; Self::ROOM] {
+        &self.blocks
+    }
+
     pub fn blocks(&self) -> &[Block] {
         &self.blocks[..self.len]
     }

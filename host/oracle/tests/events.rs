@@ -74,7 +74,7 @@ fn a_timeout_certificate_is_sent_on_and_only_its_safe_certificate_adopted() {
     assert_eq!(replica.memory.entry.record(), out);
     assert_eq!(replica.counters.view, View(10));
     assert_eq!(replica.counters.lock, certificate(7, SAFE));
-    assert_eq!(replica.counters.best_weak, Some(Certificate::weak(View(9), name(92), 0b1010)));
+    assert_eq!(replica.counters.best_weak, Certificate::weak(View(9), name(92), 0b1010));
     assert_eq!(replica.counters.timed, View(0)); // no timeout is sent
     assert!(replica.memory.timeouts.rows.iter().all(|row| row.given == 0)); // and none is kept
 }
@@ -160,7 +160,7 @@ fn a_timeout_carries_the_higher_of_lock_and_best_weak() {
     let timeout_of = |lock_view: u64, weak_view: u64| {
         let mut replica = midway();
         replica.counters.lock = certificate(lock_view, 1);
-        replica.counters.best_weak = Some(Certificate::weak(View(weak_view), name(2), 0b11));
+        replica.counters.best_weak = Certificate::weak(View(weak_view), name(2), 0b11);
         let mut out = Vec::new();
         replica.timer(View(8), &mut out).unwrap();
         wire::read_timeout(&out)
@@ -190,7 +190,7 @@ fn a_formed_timeout_certificate_does_what_an_accepted_one_does() {
     let out = accept(&mut formed, &[timeout_record(&voter(1)), timeout_record(&voter(2))]);
     assert_eq!(kinds(&out), [5, 6]); // f+1 are there with the first
     assert_eq!(formed.counters.view, View(10));
-    assert_eq!(formed.counters.best_weak, Some(Certificate::weak(View(9), name(92), 0b0110)));
+    assert_eq!(formed.counters.best_weak, Certificate::weak(View(9), name(92), 0b0110));
     assert_eq!(formed.memory.entry.record(), &out[112..]);
 
     let mut accepted = midway();
@@ -359,6 +359,6 @@ fn a_weak_certificate_with_a_block_quorum_stays_weak() {
     let mut timeouts = four_timeouts(1);
     timeouts[2].certificate = Certificate::weak(View(1), name(5), 0b11_1111);
     call(&mut replica, &timeouts_record(1, 1, &timeouts));
-    assert_eq!(replica.counters.best_weak, Some(Certificate::weak(View(1), name(5), 0b11_1111)));
+    assert_eq!(replica.counters.best_weak, Certificate::weak(View(1), name(5), 0b11_1111));
     assert_eq!(replica.counters.lock, Certificate::GENESIS);
 }

@@ -69,7 +69,7 @@ fn weak_over_block() {
         let mut replica = six_with(0, faults);
         replica.counters.view = View(4);
         replica.counters.lock = block;
-        replica.counters.best_weak = Some(weak);
+        replica.counters.best_weak = weak;
         replica.highest_certificate()
     };
     assert_eq!(carried(Faults::NONE), block);
@@ -108,7 +108,7 @@ fn safe_not_adopted() {
         let mut replica = six_with(0, faults);
         let out = accept(&mut replica, std::slice::from_ref(proposal));
         assert_eq!(kinds(&out).last(), Some(&1)); // it votes
-        (replica.counters.lock.view.0, replica.counters.best_weak.map_or(0, |weak| weak.view.0))
+        (replica.counters.lock.view.0, replica.counters.best_weak.view.0)
     };
     assert_eq!((adopted(&on_timeouts, Faults::NONE), adopted(&on_block, Faults::NONE)), ((0, 1), (1, 0)));
     let fault = faults("safe-not-adopted");

@@ -1,6 +1,6 @@
 //! A call on a replica.
 
-use oracle::{wire, Name, Replica, Reply, View};
+use oracle::{literal, wire, Name, Replica, Reply, View};
 
 #[derive(Clone, Debug, PartialEq, Eq)]
 pub enum Call {
@@ -16,6 +16,15 @@ impl Call {
             Call::Record(bytes) => replica.record(bytes, out),
             Call::Timer(view) => replica.timer(View(*view), out),
             Call::Propose(name) => replica.propose(*name, out),
+        }
+    }
+
+    /// The same with 01's loop to the letter.
+    pub fn make_literally(&self, replica: &mut Replica, out: &mut Vec<u8>, ran: &mut literal::Ran) -> Reply {
+        match self {
+            Call::Record(bytes) => literal::record(replica, bytes, out, ran),
+            Call::Timer(view) => literal::timer(replica, View(*view), out, ran),
+            Call::Propose(name) => literal::propose(replica, *name, out, ran),
         }
     }
 

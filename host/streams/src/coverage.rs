@@ -2,7 +2,7 @@
 
 use std::fmt;
 
-use oracle::{answer, wire, Replica, Reply};
+use oracle::{answer, wire, Refusal, Replica, Reply};
 
 use crate::call::Call;
 
@@ -133,6 +133,11 @@ impl Coverage {
             self.count_releases(after, output);
             self.count_state(before, after);
         }
+    }
+
+    /// Counts a call on a state that can't be read.
+    pub fn count_refused(&mut self, call: &Call, refusal: Refusal) {
+        self.answers[Kind::of(call) as usize][usize::from(refusal.number())] += 1;
     }
 
     pub fn of(&self, kind: Kind, answer: u16) -> u64 {

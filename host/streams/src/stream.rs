@@ -35,6 +35,19 @@ impl Opening {
         Opening { f, c, k, n, own: random.below(n) }
     }
 
+    /// Any settings that are taken, among them those by which two names of a view can both have enough commits
+    /// (k > f), and any own number.
+    pub fn any(random: &mut Random) -> Opening {
+        loop {
+            let (f, c) = (random.below(10), random.below(16));
+            let k = random.below(2 * f + c + 1);
+            let own = random.below(Settings::MAX_N as u64);
+            if let Some(opening) = Opening::new(f, c, k, own) {
+                return opening;
+            }
+        }
+    }
+
     pub fn open(&self) -> Replica {
         Replica::open(self.f, self.c, self.k, self.n, self.own).expect("settings that opening takes")
     }
@@ -134,6 +147,8 @@ pub struct Stream {
     spoiled: u64,
     /// Whether it may go to the last views, which end a run: only one stream in four does.
     jumps: bool,
+    /// Whether moods change after a few calls.
+    restless: bool,
 }
 
 impl Stream {
@@ -141,7 +156,12 @@ impl Stream {
         let mut random = Random::new(seed);
         let spoiled = random.pick(&[10, 30, 45]);
         let jumps = random.chance(25);
-        Stream { random, mood: Mood::Progress, left: 20, spoiled, jumps }
+        Stream { random, mood: Mood::Progress, left: 20, spoiled, jumps, restless: false }
+    }
+
+    /// A stream for few calls: moods change soon, from the first call on, and fewer calls are spoiled.
+    pub fn restless(seed: u64) -> Stream {
+        Stream { left: 0, spoiled: 8, restless: true, ..Stream::new(seed) }
     }
 
     /// The next call, in view of the replica's state.
@@ -182,6 +202,7 @@ impl Stream {
             ),
         ]);
         self.left = match self.mood {
+            _ if self.restless => self.random.between(1, 6),
             Mood::Bush | Mood::Chain => self.random.between(20, 300),
             Mood::Jump => self.random.between(5, 40),
             _ => self.random.between(20, 150),

@@ -3,16 +3,20 @@
 //!     streams input SEED CALLS [F C K OWN] > FILE     one input
 //!     streams files DIR FIRST_SEED COUNT CALLS         many inputs, one file a seed
 //!     streams coverage FIRST_SEED COUNT CALLS          plays streams and prints the table
+//!     streams lent FIRST_SEED STATES CALLS > FILE      one input of the program over lent regions
+//!     streams lent-coverage FIRST_SEED STATES CALLS    prints what such an input covers
 
 use std::io::{self, Write};
 use std::path::Path;
 use std::process::ExitCode;
 
-use streams::{input, play, Coverage, Opening, UNREACHABLE};
+use streams::{input, lent_input, play, Coverage, LentCoverage, Opening, UNREACHABLE};
 
 const USAGE: &str = "streams input SEED CALLS [F C K OWN] > FILE
 streams files DIR FIRST_SEED COUNT CALLS
-streams coverage FIRST_SEED COUNT CALLS";
+streams coverage FIRST_SEED COUNT CALLS
+streams lent FIRST_SEED STATES CALLS > FILE
+streams lent-coverage FIRST_SEED STATES CALLS";
 
 fn main() -> ExitCode {
     let arguments: Vec<String> = std::env::args().skip(1).collect();
@@ -48,6 +52,17 @@ fn perform(arguments: &[&str]) -> Option<io::Result<()>> {
         ["coverage", first, count, calls] => {
             print_coverage(first.parse().ok()?, count.parse().ok()?, calls.parse().ok()?);
             Some(Ok(()))
+        }
+        [what @ ("lent" | "lent-coverage"), first, states, calls] => {
+            let first = first.parse().ok()?;
+            let seeds = first..first + states.parse::<u64>().ok()?;
+            let mut coverage = LentCoverage::default();
+            let bytes = lent_input(seeds, calls.parse().ok()?, &mut coverage);
+            if *what == "lent-coverage" {
+                println!("{coverage}");
+                return Some(Ok(()));
+            }
+            Some(io::stdout().write_all(&bytes))
         }
         _ => None,
     }
