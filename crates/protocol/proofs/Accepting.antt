@@ -32,10 +32,10 @@ use Rattle.safety.specs.Rank.{Cert, _⊑_}
 use Rattle.safety.specs.Cluster.{HighVoted}
 use Rattle.safety.specs.Certificates.{cert}
 use Rattle.safety.specs.Trace as Trace
-use Rattle.protocol.specs.Work.{Work, settings, n, own, viewNow, timed, highView, tip, blocks, heldBlock, adopt, hold, keepVote, keepCommit, keepTimeout, sendVote}
+use Rattle.protocol.specs.Work.{voteRecord, Work, settings, n, own, viewNow, timed, highView, tip, blocks, heldBlock, adopt, hold, keepVote, keepCommit, keepTimeout, sendVote}
 use Rattle.protocol.specs.Typed.{BlockTyped}
 use Rattle.protocol.specs.Refusals.{storeLength, notOther, belowView, aboveWindow, viewOfProgress, isHeld, misplaced}
-use Rattle.protocol.specs.Events.{progress, propositionOf}
+use Rattle.protocol.specs.Events.{mayVote, safeIn, progress, propositionOf}
 use Rattle.protocol.proofs.Regular.{Regular}
 use Rattle.protocol.proofs.World.{Name, World, R, size, traced, TimeoutKept, ParentHeld, VoteGround, Real}
 use Rattle.protocol.proofs.Records.{joined-more, vote-framed}
@@ -60,9 +60,9 @@ below-is W v e =
 -- a parent that is held, one below
 pub parent-is : (W : Work) (b : Block) → misplaced W b ≡ false → ((heldBlock W (b .parent) .is ≡ true) × (b .height .0 ≡ suc (heldBlock W (b .parent) .block .height .0))) × (b .height .0 ≤ lastHeight)
 parent-is W b e =
-    let p = or-false (not (isHeld W (b .parent) && eqb (b .height .0) (suc (heldBlock W (b .parent) .block .height .0)))) (ltb lastHeight (b .height .0)) e in
-    let q = and-true (isHeld W (b .parent)) _ (not-false _ (p .0)) in
-    ((q .0, eqb-true _ _ (q .1)), ltb-false _ _ (p .1))
+    let p = or-false _ _ e in
+    let q = and-true _ _ (not-false _ (p .0)) in
+    ((q .0, eqb-true (b .height .0) (suc (heldBlock W (b .parent) .block .height .0)) (q .1)), ltb-false lastHeight (b .height .0) (p .1))
 
 found-is : (f : Found) → f .is ≡ true → f ≡ found (f .block)
 found-is f e = ap (λ (t : Bool). let g : Found = record { is = t; block = f .block } in g) e
@@ -165,9 +165,9 @@ module _ (set : Settings) (w : World) (H : HighVoted (R set w)) (i : ℕ) (l₀ 
       pub view-is : viewNow W₁ ≡ v
 
     abbrev pub W₁ : Work
-    W₁ = cond (eqb v (viewNow W)) (adopt W (safeCertificate (settings W) (certificateOf r))) (progress r W)
+    W₁ = cond (eqb v (viewNow W)) (adopt W (safeIn W (certificateOf r))) (progress r W)
 
-    adopted-here : v ≡ viewNow W → (Seen set w i l₀ S → TakenAt set w u r) → (Seen set w i l₀ S → u < viewNow W) → Ready (adopt W (safeCertificate (settings W) (certificateOf r)))
+    adopted-here : v ≡ viewNow W → (Seen set w i l₀ S → TakenAt set w u r) → (Seen set w i l₀ S → u < viewNow W) → Ready (adopt W (safeIn W (certificateOf r)))
     unfolding adopt adopting withLocks
     adopted-here q F below = record {
       sound = record { made = S .made; out-is = S .out-is; framed = S .framed; real = λ a. adopted-real set w i l₀ r W S u F (viewNow W) (omega arith) (below a) (S .real a .certified .roof-le) a };
@@ -237,7 +237,7 @@ module _ (set : Settings) (w : World) (H : HighVoted (R set w)) (i : ℕ) (l₀ 
     ground a = let z = back (back₂ a) in (viewOfProgress (certificateOf r), sym (next z), F z .backed, (b, born z, refl, on z))
 
     abbrev q : List ℕ
-    q = voteBytes 1 (own W₂) v (b .name)
+    q = voteRecord W₂ v (b .name)
 
     did : (a : Seen set w i l₀ S₂) → Shown w i q → w .Voted i v (b .name)
     unfolding encode Fits
@@ -270,6 +270,6 @@ module _ (set : Settings) (w : World) (H : HighVoted (R set w)) (i : ℕ) (l₀ 
     pub proposition-sound : Snd (propositionOf v b r W)
     unfolding propositionOf
     proposition-sound =
-        by-test Snd (ltb (timed W₂) v && ltb (highView W₂) v) (sendVote v (b .name) W₂) W₂
-        (λ e. let p = and-true (ltb (timed W₂) v) (ltb (highView W₂) v) e in voted-sound (ltb-true _ _ (p .0)) (ltb-true _ _ (p .1)))
+        by-test Snd (mayVote v W₂) (sendVote v (b .name) W₂) W₂
+        (λ e. let p = and-true _ _ e in voted-sound (ltb-true (timed W₂) v (p .0)) (ltb-true (highView W₂) v (p .1)))
         (λ e. S₂)

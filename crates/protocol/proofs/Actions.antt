@@ -1,19 +1,21 @@
 -- Sending a vote, a commit or a timeout, and releasing a block, keep a replica regular. Assumes nothing.
 use Prim.Native.Nat.{ℕ, _≤_}
 use native.Mathlib.Omega.{arith}
-use mathlib.Core.Path.{_≡_, refl}
+use mathlib.Core.Path.{_≡_, refl, ap}
 use mathlib.Core.Bool.{Bool, true, false, cond}
 use mathlib.Core.List.{List}
-use lib.Dec.{lit<}
+use lib.Dec.{eqb, lit<}
 use lib.ListN.{length}
 use Rattle.codec.specs.Bytes.{IsBytes}
 use Rattle.wire.specs.declared.Timeout.{Timeout}
 use Rattle.wire.specs.Content.{timeout}
-use Rattle.wire.specs.Encode.{voteBytes, timeoutBytes, encode}
+use Rattle.wire.specs.Encode.{timeoutBytes, encode}
 use Rattle.wire.specs.Fit.{IsName, IsU16, IsU64, TimeoutFits, Fits}
 use Rattle.wire.proofs.Lengths.{length-timeout}
 use Rattle.wire.proofs.Tables.{bytes-encode}
-use Rattle.certificate.specs.Rank.{highest}
+use Rattle.certificate.specs.declared.Certificate.{Certificate}
+use Rattle.certificate.specs.Rank.{highest, carriedCertificate}
+use Rattle.certificate.specs.Order.{carriedIn}
 use Rattle.blocks.specs.declared.Block.{Block}
 use Rattle.blocks.specs.Store.{kept}
 use Rattle.blocks.proofs.Dropping.{held-within}
@@ -23,7 +25,7 @@ use Rattle.memory.proofs.Apart.{votes, commits, timeouts}
 use Rattle.memory.proofs.Header.{length-with-count, bytes-with-count, count-put, count-settings, count-own, count-entry}
 use Rattle.counters.specs.declared.Counters.{Counters}
 use Rattle.counters.specs.Counters.{locksOf, timing, voting, releasing}
-use Rattle.protocol.specs.Work.{Work, view, own, blocks, withCounters, send, keepVote, keepCommit, keepTimeout, sendVote, sendCommit, ownTimeout, sendTimeout, release}
+use Rattle.protocol.specs.Work.{Work, view, own, blocks, withCounters, voteRecord, commitRecord, send, keepVote, keepCommit, keepTimeout, sendVote, sendCommit, ownTimeout, sendTimeout, release}
 use Rattle.protocol.specs.Typed.{BlockTyped, CountersTyped}
 use Rattle.protocol.specs.Refusals.{storeLength}
 use Rattle.protocol.proofs.Typing.{highest-typed, dropped-typed}
@@ -42,7 +44,7 @@ pub vote-regular : (W : Work) (v : ℕ) (x : List ℕ) → IsU64 v → IsName x 
 unfolding sendVote keepVote voting
 vote-regular W v x h k R =
     let W₁ = withCounters W (voting (W .counters) (record { view = view v; name = x })) in
-    let W₂ = send W₁ (voteBytes 1 (own W) v x) in
+    let W₂ = send W₁ (voteRecord W v x) in
     let R₂ : Regular W₂ = send-regular W₁ _ (counters-regular W _ (voting-typed (W .counters) v x h k (R .typed .counters)) (R .view-first) (R .view-last) R) in
     let r = keep-regular W₂ votes v (own W) x (omega (arith, R .member, R .few)) (k .size) (k .bytes) R₂ in
     (r .0, still-trans W W₂ _ (same-still W W₂ refl refl) (r .1))
@@ -50,13 +52,28 @@ vote-regular W v x h k R =
 pub commit-regular : (W : Work) (v : ℕ) (x : List ℕ) → IsName x → Regular W → Regular (sendCommit v x W) × Still W (sendCommit v x W)
 unfolding sendCommit keepCommit
 commit-regular W v x k R =
-    let W₁ = send W (voteBytes 2 (own W) v x) in
+    let W₁ = send W (commitRecord W v x) in
     let r = keep-regular W₁ commits v (own W) x (omega (arith, R .member, R .few)) (k .size) (k .bytes) (send-regular W _ R) in
     (r .0, still-trans W W₁ _ (same-still W W₁ refl refl) (r .1))
 
 kind-fits : (b : Bool) → IsU16 (cond b 3 4)
 kind-fits true = lit< tt
 kind-fits false = lit< tt
+
+-- ---- what a timeout says: the high vote, and what the replica has highest
+pub own-high : (W : Work) (v : ℕ) → ownTimeout W v .high ≡ W .counters .high
+unfolding ownTimeout
+own-high W v = refl
+
+kind-back : (b : Bool) → eqb (cond b 3 4) 3 ≡ b
+kind-back true = refl
+kind-back false = refl
+
+pub own-carries : (W : Work) (v : ℕ) → carriedIn (ownTimeout W v) ≡ highest (locksOf (W .counters))
+unfolding ownTimeout carriedCertificate
+own-carries W v =
+    let k = highest (locksOf (W .counters)) in
+    ap (λ (b : Bool). let c : Certificate = record { block = b; view = k .view; name = k .name; signers = k .signers } in c) (kind-back (k .block))
 
 pub own-timeout-fits : (W : Work) (v : ℕ) → IsU64 v → Regular W → TimeoutFits (ownTimeout W v)
 unfolding ownTimeout

@@ -39,33 +39,18 @@ use Rattle.safety.specs.Trace.{does}
 use Rattle.safety.specs.Trace as Trace
 use Rattle.safety.proofs.Rank.{⊑-refl}
 use Rattle.safety.proofs.Certificates as Cands
-use Rattle.protocol.specs.Work.{Work, view, n, own, viewNow, timed, highView, tip, blocks, withCounters, send, keepVote, keepCommit, keepTimeout, sendVote, sendCommit, ownTimeout, sendTimeout}
-use Rattle.protocol.specs.Typed.{CertificateTyped, CountersTyped}
+use Rattle.protocol.specs.Work.{commitRecord, voteRecord, Work, view, n, own, viewNow, timed, highView, tip, blocks, withCounters, send, keepVote, keepCommit, keepTimeout, sendVote, sendCommit, ownTimeout, sendTimeout}
+use Rattle.protocol.specs.Typed.{CountersTyped}
 use Rattle.protocol.specs.OneChain.{reads}
-use Rattle.protocol.proofs.Regular.{Regular, counters-regular, send-regular}
+use Rattle.protocol.proofs.Regular.{counters-regular, send-regular}
+use Rattle.protocol.proofs.Actions.{own-high, own-carries, own-timeout-fits}
 use Rattle.protocol.proofs.World.{Name, World, R, size, Sent, traced, rowIn, VoteGround, Acted, Standing, Certified, VoteKept, CommitKept, TimeoutKept, Real}
 use Rattle.protocol.proofs.Records.{reads-encode}
 use Rattle.protocol.proofs.Steps.{row-same, all-more, all-one, size-is, few, chained-same, vote-real, commit-real, timeout-real}
 
--- "certificate kind u16 (3, or 4 for weak)" tells the two kinds apart
-kind-back : (b : Bool) → eqb (cond b 3 4) 3 ≡ b
-kind-back true = refl
-kind-back false = refl
-
-kind-fits : (b : Bool) → cond b 3 4 < 2 ^ 16
-kind-fits true = omega arith
-kind-fits false = omega arith
-
 kind-proper : (b : Bool) → (_≡_ {A = ℕ} (cond b 3 4) 3) ⊎ (_≡_ {A = ℕ} (cond b 3 4) 4)
 kind-proper true = inl refl
 kind-proper false = inr refl
-
--- a timeout carries what the replica has highest
-own-carries : (W : Work) (v : ℕ) → carriedIn (ownTimeout W v) ≡ highest (locksOf (W .counters))
-unfolding ownTimeout carriedCertificate
-own-carries W v =
-    let k = highest (locksOf (W .counters)) in
-    ap (λ (b : Bool). let c : Certificate = record { block = b; view = k .view; name = k .name; signers = k .signers } in c) (kind-back (k .block))
 
 module _ (set : Settings) (w : World) (i roof : ℕ) (W : Work) (l : List (List ℕ)) (X : Real set w i roof W l) where
   own-low : own W < 2 ^ 16
@@ -83,11 +68,11 @@ module _ (set : Settings) (w : World) (i roof : ℕ) (W : Work) (l : List (List 
     unfolding Fits
     commit-fits = (own-low, omega (arith, small), name)
 
-    commit-reads : reads (voteBytes 2 (own W) v x) ≡ is-commit v x
+    commit-reads : reads (commitRecord W v x) ≡ is-commit v x
     unfolding encode
     commit-reads = reads-encode q commit-fits
 
-    commit-sent : 0 < v → Sent (size set w) (voteBytes 2 (own W) v x)
+    commit-sent : 0 < v → Sent (size set w) (commitRecord W v x)
     unfolding encode Proper
     commit-sent h = record { says = q; is = refl; fits = commit-fits; passes = go (sameBytes x zeroName) refl }
       where
@@ -96,10 +81,10 @@ module _ (set : Settings) (w : World) (i roof : ℕ) (W : Work) (l : List (List 
         go false e = inl (same-ne x zeroName e)
 
     pub committed-real : timed W < v → Windowed commits (viewNow W) v → blockOf v x ⊑ traced (W .counters) .top → Signed (R set w) (blockOf v x) → w .Committed i v x
-        → Real set w i roof (sendCommit v x W) (l ++ (voteBytes 2 (own W) v x ∷ []))
+        → Real set w i roof (sendCommit v x W) (l ++ (commitRecord W v x ∷ []))
     unfolding sendCommit
     committed-real late in-window over signed did =
-        let r = voteBytes 2 (own W) v x in
+        let r = commitRecord W v x in
         commit-real set w i roof (send W r) (l ++ (r ∷ [])) v (own W) x (name .bytes) own-size (record {
           regular = send-regular W r (X .regular);
           set-is = X .set-is;
@@ -127,19 +112,19 @@ module _ (set : Settings) (w : World) (i roof : ℕ) (W : Work) (l : List (List 
     unfolding Fits
     vote-fits = (own-low, omega (arith, small), name)
 
-    vote-reads : reads (voteBytes 1 (own W) v x) ≡ is-vote v x
+    vote-reads : reads (voteRecord W v x) ≡ is-vote v x
     unfolding encode
     vote-reads = reads-encode (vote (own W) v x) vote-fits
 
-    vote-sent : Sent (size set w) (voteBytes 1 (own W) v x)
+    vote-sent : Sent (size set w) (voteRecord W v x)
     unfolding encode Proper
     vote-sent = record { says = vote (own W) v x; is = refl; fits = vote-fits; passes = named }
 
     pub voted-real : (c : Cert Name) → timed W < v → highView W < v → v ≤ roof → Windowed votes (viewNow W) v → c ⊑ traced (W .counters) .top → VoteGround set w v x c → w .Voted i v x
-        → Real set w i roof (sendVote v x W) (l ++ (voteBytes 1 (own W) v x ∷ []))
+        → Real set w i roof (sendVote v x W) (l ++ (voteRecord W v x ∷ []))
     unfolding sendVote voting locksOf
     voted-real c late first le in-window over ground did =
-        let r = voteBytes 1 (own W) v x in
+        let r = voteRecord W v x in
         let h : Vote = record { view = view v; name = x } in
         let C = X .certified in
         let W₁ = send (withCounters W (voting (W .counters) h)) r in
@@ -198,33 +183,15 @@ module _ (set : Settings) (w : World) (i roof : ℕ) (W : Work) (l : List (List 
         both true = X .certified .lock
         both false = X .certified .weak
 
-    highest-typed : CertificateTyped k
-    unfolding locksOf certificateOf
-    highest-typed = highest-has CertificateTyped (locksOf (W .counters)) (λ b. both b)
-      where
-        both : (b : Bool) → CertificateTyped (kept b (locksOf (W .counters)))
-        both true = let s = X .regular .typed .counters .lock in record { view = s .view; name = s .name; signers = s .signers }
-        both false = let s = X .regular .typed .counters .weak in record { view = s .view; name = s .name; signers = s .signers }
-
     timeout-fits : TimeoutFits t
-    unfolding ownTimeout
-    timeout-fits = record {
-      sender = own-low;
-      view = omega (arith, small);
-      high-view = X .regular .typed .counters .high .view;
-      high-name = X .regular .typed .counters .high .name;
-      kind = kind-fits (k .block);
-      carried-view = highest-typed .view;
-      carried-name = highest-typed .name;
-      signers = highest-typed .signers;
-    }
+    timeout-fits = own-timeout-fits W v (omega (arith, small)) (X .regular)
 
     timeout-proper : TimeoutProper (size set w) t
     unfolding ownTimeout
     timeout-proper = record {
       kind = kind-proper (k .block);
-      named = X .certified .high-named;
-      viewed = X .certified .high-viewed;
+      named = rw (own-high W v) (X .certified .high-named);
+      viewed = rw (own-high W v) (X .certified .high-viewed);
       signers = highest-stands .signers;
     }
 
@@ -240,7 +207,7 @@ module _ (set : Settings) (w : World) (i roof : ℕ) (W : Work) (l : List (List 
     unfolding ownTimeout
     timeout-fine did = record {
       of-view = refl;
-      high-le = omega (arith, X .certified .high-le, le);
+      high-le = let e = ap (λ (h : Vote). h .view .0) (own-high W v) in omega (arith, X .certified .high-le, le, e);
       carried-good = rw (own-carries W v) (highest-stands .good);
       carried-le = let e = ap (λ (c : Certificate). c .view .0) (own-carries W v) in omega (arith, highest-stands .below, le, e);
       truly = λ b h. rw (X .mine) did;
@@ -255,8 +222,8 @@ module _ (set : Settings) (w : World) (i roof : ℕ) (W : Work) (l : List (List 
     unfolding ownTimeout timing locksOf
     timeout-step late = record {
       later = late;
-      says-view = refl;
-      says-name = refl;
+      says-view = ap (λ (h : Vote). h .view .0) (own-high W v);
+      says-name = ap (λ (h : Vote). h .name) (own-high W v);
       carries = ap cert (own-carries W v);
       timed-is = refl;
       high-view-is = refl;

@@ -103,7 +103,7 @@ by-content W r (timeout t) b h f p q R =
     done 0 W _ (omega arith) (keep-regular W timeouts (t .view .0) (t .sender) r (omega (arith, other-low W (t .sender) (q .0), R .few)) l b R) (omega arith)
 by-content W r (proposal j v x y i k) b h f p q R =
     let inner : Stands (progressOf r) (certificate j k) = rw (h .rest) (stands-encode (certificate j k) (f .0, f .5)) in
-    let before : suc (viewOfProgress k) ≡ v = eqb-true _ _ (and-true (progressGood (settings W) k) (eqb (suc (viewOfProgress k)) v) (not-false _ (q .1 .1 .1 .0)) .1) in
+    let before : suc (viewOfProgress k) ≡ v = eqb-true (suc (viewOfProgress k)) v (and-true (progressGood (settings W) k) _ (not-false _ (q .1 .1 .1 .0)) .1) in
     let low : v < lastView = leb-false _ _ (q .1 .1 .0) in
     more (entryRoom + voteLength) W _ (omega arith)
     (proposal-any W v (child W x y i) (progressOf r) (f .1) (record { name = f .2; parent = f .3; height = f .4 })

@@ -33,10 +33,10 @@ use Rattle.safety.specs.Certificates.{cert}
 use Rattle.safety.specs.Certificates as Safety
 use Rattle.safety.specs.Trace as Trace
 use Rattle.safety.specs.Run.{is-other}
-use Rattle.protocol.specs.Work.{Work, settings, n, own, viewNow, timed, tip, blocks, send, adopt, enterBy, keepCommit, sendCommit}
+use Rattle.protocol.specs.Work.{commitRecord, Work, settings, n, own, viewNow, timed, tip, blocks, send, adopt, enterBy, keepCommit, sendCommit}
 use Rattle.protocol.specs.Typed.{CertificateTyped}
 use Rattle.protocol.specs.Refusals.{viewOfProgress}
-use Rattle.protocol.specs.Events.{withSender, commitAfter, progress}
+use Rattle.protocol.specs.Events.{mayCommit, safeIn, withSender, commitAfter, progress}
 use Rattle.protocol.specs.OneChain.{reads}
 use Rattle.protocol.proofs.Regular.{Regular}
 use Rattle.protocol.proofs.World.{Name, World, R, size, Sent, traced, Standing, Entry, Real}
@@ -132,7 +132,7 @@ module _ (set : Settings) (w : World) (i : ℕ) (l₀ : List (List ℕ)) where
     k = certificateOf r
 
     abbrev W₁ : Work
-    W₁ = adopt W (safeCertificate (settings W) k)
+    W₁ = adopt W (safeIn W k)
 
     abbrev s : List ℕ
     s = withSender (own W) r
@@ -140,11 +140,11 @@ module _ (set : Settings) (w : World) (i : ℕ) (l₀ : List (List ℕ)) where
     abbrev l : List (List ℕ)
     l = l₀ ++ S .made
 
-    safe-is : Seen S → safeCertificate (settings W) k ≡ safeCertificate set k
+    safe-is : Seen S → safeIn W k ≡ safeCertificate set k
     safe-is a = ap (λ (t : Settings). safeCertificate t k) (S .real a .set-is)
 
     pub over-safe : Seen S → cert (safeCertificate set k) ⊑ traced (W₁ .counters) .top
-    over-safe a = rw (← safe-is a) (adopt-top set w i W (safeCertificate (settings W) k))
+    over-safe a = rw (← safe-is a) (adopt-top set w i W (safeIn W k))
 
     pub adopted-real : (roof : ℕ) → viewNow W ≤ roof → u < roof → roof ≤ lastView → (a : Seen S) → Real set w i roof W₁ l
     adopted-real roof h b m a =
@@ -245,7 +245,7 @@ module _ (set : Settings) (w : World) (i : ℕ) (l₀ : List (List ℕ)) where
   module _ (v : ℕ) (x : Name) (W : Work) (S : Sound W) (W₃ : Work) (G : Went v (blockOf v x) W S W₃) (h : viewNow W ≤ v) (name : Seen S → IsName x) (good : Seen S → Good (R set w) (blockOf v x))
       (small : Seen S → v < lastView) (long : length x ≡ nameLength) (late : timed W₃ < v) where
     abbrev q : List ℕ
-    q = voteBytes 2 (own W₃) v x
+    q = commitRecord W₃ v x
 
     abbrev S₃ : Sound W₃
     S₃ = G .sound
@@ -320,7 +320,7 @@ module _ (set : Settings) (w : World) (i : ℕ) (l₀ : List (List ℕ)) where
     vᵣ = viewOfProgress (certificateOf r)
 
     abbrev Wₑ : Work
-    Wₑ = enterBy (send (adopt W (safeCertificate (settings W) (certificateOf r))) (withSender (own W) r)) (suc vᵣ) (withSender (own W) r)
+    Wₑ = enterBy (send (adopt W (safeIn W (certificateOf r))) (withSender (own W) r)) (suc vᵣ) (withSender (own W) r)
 
     -- by kind: only a block certificate has a commit after it
     after-went : (k : Certificate) (W₄ : Work) → viewNow W ≤ viewOfProgress k → Went (viewOfProgress k) (cert (safeCertificate set k)) W S W₄ → CertificateFits k
@@ -328,7 +328,7 @@ module _ (set : Settings) (w : World) (i : ℕ) (l₀ : List (List ℕ)) where
         → Went (viewOfProgress k) (cert (safeCertificate set k)) W S (commitAfter k W₄)
     unfolding safeCertificate CertificateFits
     after-went (byBlock u x g) W₄ h G f good b =
-        by-test (λ (W′ : Work). Went u (blockOf u x) W S W′) (ltb (timed W₄) u) (sendCommit u x W₄) W₄
+        by-test (λ (W′ : Work). Went u (blockOf u x) W S W′) (mayCommit u W₄) (sendCommit u x W₄) W₄
         (λ e. commit-went u x W S W₄ G h (λ a. f .1) good b (f .1 .size) (ltb-true (timed W₄) u e))
         (λ e. G)
     after-went (byTimeouts u ts) W₄ h G f good b = G
@@ -336,7 +336,7 @@ module _ (set : Settings) (w : World) (i : ℕ) (l₀ : List (List ℕ)) where
     pub progress-went : Went vᵣ (cert (safeCertificate set (certificateOf r))) W S (progress r W)
     unfolding progress
     progress-went =
-        by-test (λ (W′ : Work). Went vᵣ (cert (safeCertificate set (certificateOf r))) W S W′) (leb (viewNow W) vᵣ) (commitAfter (certificateOf r) Wₑ) (adopt W (safeCertificate (settings W) (certificateOf r)))
+        by-test (λ (W′ : Work). Went vᵣ (cert (safeCertificate set (certificateOf r))) W S W′) (leb (viewNow W) vᵣ) (commitAfter (certificateOf r) Wₑ) (adopt W (safeIn W (certificateOf r)))
         (λ e. let h = leb-true (viewNow W) vᵣ e in
         after-went (certificateOf r) Wₑ h (enter-went r W S vᵣ F whole h) fit (λ a. F a .taken .good) (λ a. F a .below))
         (λ e. adopt-went r W S vᵣ F (leb-false (viewNow W) vᵣ e))

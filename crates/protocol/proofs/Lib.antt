@@ -39,3 +39,4 @@ pub mod Calling
 pub mod Keeping
 pub mod Demand3
 pub mod Whole
+pub mod Places

@@ -23,7 +23,7 @@ use Rattle.counters.specs.declared.Counters.{Counters}
 use Rattle.counters.specs.Counters.{locksOf, withLocks, signedOf, adopting, entering}
 use Rattle.counters.specs.Counters
 use Rattle.protocol.specs.Work.{Work, own, viewNow, timed, send, adopt, enterBy, keepCommit, sendCommit}
-use Rattle.protocol.specs.Events.{withSender, commitAfter, progress}
+use Rattle.protocol.specs.Events.{mayCommit, withSender, commitAfter, progress}
 use Rattle.protocol.proofs.Regular.{Regular}
 use Rattle.protocol.proofs.FormedRead.{block-read, block-fits, length-sender}
 use Rattle.protocol.proofs.Advance.{Advanced, advanced-adopt, advanced-enter, advanced-commit}
@@ -101,5 +101,5 @@ module _ (W : Work) (R : Regular W) (v : ℕ) (x : List ℕ) (g : ℕ) (l : v < 
         lock = entered-lock W v x s k ∙ lock-adopted W v x g higher;
         view = omega (arith, entered-view W v x s k);
       } in
-      by-cases P (ltb (timed W₂) v) (sendCommit v x W₂) W₂ (λ c. locked-commit W W₂ v x k (name .size) (omega (arith, own-entered W v s k, R .member, R .few)) L) (λ c. L))
+      by-cases P (mayCommit v W₂) (sendCommit v x W₂) W₂ (λ c. locked-commit W W₂ v x k (name .size) (omega (arith, own-entered W v s k, R .member, R .few)) L) (λ c. L))
       (λ t. record { advanced = advanced-adopt W k; lock = lock-adopted W v x g higher; view = omega (arith, view-adopted W k) }))

@@ -17,7 +17,7 @@ use Rattle.memory.specs.Window.{highest}
 use Rattle.memory.specs.Formed.{formed}
 use Rattle.counters.specs.Counters.{entering}
 use Rattle.protocol.specs.Work.{Work, settings, n, own, viewNow, send, adopt, enterBy}
-use Rattle.protocol.specs.Events.{withSender, progress}
+use Rattle.protocol.specs.Events.{safeIn, withSender, progress}
 use Rattle.protocol.specs.Rules.{ruleB, each, timeoutViews}
 use Rattle.protocol.specs.Applies.{timeoutsKept, AppliesB, runB, NoA, NoB, byB, rest, turn}
 use Rattle.protocol.proofs.Regular.{Regular}
@@ -28,7 +28,7 @@ use Rattle.protocol.proofs.Turning.{by-cases, Led, each-led}
 
 -- "Timeout certificate of view w ≥ view: adopt its safe certificate, send it to the next leader, enter w+1."
 pub progress-timeouts : (W : Work) (r : List ℕ) (v : ℕ) (ts : List Timeout) → certificateOf r ≡ byTimeouts v ts → viewNow W ≤ v
-    → progress r W ≡ enterBy (send (adopt W (safeCertificate (settings W) (byTimeouts v ts))) (withSender (own W) r)) (suc v) (withSender (own W) r)
+    → progress r W ≡ enterBy (send (adopt W (safeIn W (byTimeouts v ts))) (withSender (own W) r)) (suc v) (withSender (own W) r)
 unfolding progress
 progress-timeouts W r v ts e h = rw (e, le-leb (viewNow W) v h)
 
@@ -38,7 +38,7 @@ enter-view W v r = refl
 
 -- what running B at a view w ≥ view leaves
 module _ (w : ℕ) (W : Work) (R : Regular W) (h : viewNow W ≤ w) (l : w < lastView) where
-  run-B : runB w W ≡ enterBy (send (adopt W (safeCertificate (settings W) (byTimeouts w (map timeoutOf (slots (formed (W .memory) w (n W) (own W))))))) (withSender (own W) (formed (W .memory) w (n W) (own W)))) (suc w) (withSender (own W) (formed (W .memory) w (n W) (own W)))
+  run-B : runB w W ≡ enterBy (send (adopt W (safeIn W (byTimeouts w (map timeoutOf (slots (formed (W .memory) w (n W) (own W))))))) (withSender (own W) (formed (W .memory) w (n W) (own W)))) (suc w) (withSender (own W) (formed (W .memory) w (n W) (own W)))
   run-B = progress-timeouts W (formed (W .memory) w (n W) (own W)) w _ (formed-read (W .memory) w (n W) (own W) l) h
 
   advanced-B : Advanced W (runB w W)

@@ -26,7 +26,7 @@ use Rattle.counters.specs.Counters.{adopting, withLocks, entering}
 use Rattle.protocol.specs.Work.{Work, settings, n, own, viewNow, timed, highView, tip, heldBlock, send, adopt, enterBy, hold, keepCommit, sendVote, sendCommit}
 use Rattle.protocol.specs.Typed.{BlockTyped}
 use Rattle.protocol.specs.Refusals.{storeLength, viewOfProgress, noRoom}
-use Rattle.protocol.specs.Events.{withSender, commitAfter, progress, propositionOf}
+use Rattle.protocol.specs.Events.{mayCommit, mayVote, safeIn, withSender, commitAfter, progress, propositionOf}
 use Rattle.protocol.proofs.Regular.{EntryForm, Regular, Still, ProgressForm, still-trans, send-regular, adopt-still, enter-regular, hold-regular}
 use Rattle.protocol.proofs.Actions.{vote-regular}
 use Rattle.protocol.proofs.Forms.{form-fits, form-view, sender-bytes, sender-form}
@@ -74,7 +74,7 @@ held-if W A B false a b = b
 
 commit-after-held : (k : Certificate) (W : Work) → CertificateFits k → own W < largest → SameHeld W (commitAfter k W)
 unfolding CertificateFits
-commit-after-held (byBlock v x g) W f h = held-if W _ _ (ltb (timed W) v) (commit-held W v x (f .1 .size) h) (record { count = refl; store = refl; tip = refl })
+commit-after-held (byBlock v x g) W f h = held-if W _ _ (mayCommit v W) (commit-held W v x (f .1 .size) h) (record { count = refl; store = refl; tip = refl })
 commit-after-held (byTimeouts v ts) W f h = record { count = refl; store = refl; tip = refl }
 
 pub progress-held : (W : Work) (r : List ℕ) → ProgressForm (n W) r → Regular W → SameHeld W (progress r W)
@@ -82,7 +82,7 @@ unfolding progress adopt
 progress-held W r f R =
     let k = certificateOf r in
     let s = withSender (own W) r in
-    let W₁ = adopt W (safeCertificate (settings W) k) in
+    let W₁ = adopt W (safeIn W k) in
     let R₁ : Regular W₁ = adopts-regular W r (f .bytes) (f .form) R in
     let W₂ = send W₁ s in
     let W₃ = enterBy W₂ (suc (viewOfProgress k)) s in
@@ -105,14 +105,14 @@ room-free W x e h = leb-false _ _ (rw h at e)
 
 -- ---- "hold the block; ... vote for it"
 abbrev holdVote : ℕ → Block → Work → Work
-holdVote v b W = let W₂ = hold W b in cond (ltb (timed W₂) v && ltb (highView W₂) v) (sendVote v (b .name) W₂) W₂
+holdVote v b W = let W₂ = hold W b in cond (mayVote v W₂) (sendVote v (b .name) W₂) W₂
 
 hold-vote : (W : Work) (v : ℕ) (b : Block) → IsU64 v → BlockTyped b → noRoom W (b .name) ≡ false → Regular W → Done voteLength W (holdVote v b W)
 hold-vote W v b hv hb free R =
     let W₂ = hold W b in
     let h = hold-regular W b hb (room-free W (b .name) free) R in
     let r = vote-regular W₂ v (b .name) hv (hb .name) (h .0) in
-    go (ltb (timed W₂) v && ltb (highView W₂) v)
+    go (mayVote v W₂)
     (record { regular = r .0; still = still-trans W W₂ _ (h .1) (r .1); written = omega (arith, vote-out W₂ v (b .name) (hb .name), ap length (hold-out W b)) })
     (record { regular = h .0; still = h .1; written = omega (arith, ap length (hold-out W b)) })
   where
@@ -128,9 +128,9 @@ pub proposal-now : (W : Work) (b : Block) (r : List ℕ) → BlockTyped b → Is
     → Done voteLength W (propositionOf (viewNow W) b r W)
 unfolding propositionOf
 proposal-now W b r hb br f free R =
-    let W₁ = adopt W (safeCertificate (settings W) (certificateOf r)) in
+    let W₁ = adopt W (safeIn W (certificateOf r)) in
     rw (eq-eqb (viewNow W) (viewNow W) refl)
-    (let d = done-then 0 voteLength W W₁ _ (adopts-regular W r br f R, adopt-still W _) (omega (arith, ap length (adopt-out W (safeCertificate (settings W) (certificateOf r)))))
+    (let d = done-then 0 voteLength W W₁ _ (adopts-regular W r br f R, adopt-still W _) (omega (arith, ap length (adopt-out W (safeIn W (certificateOf r)))))
     (hold-vote W₁ (viewNow W) b (omega (arith, R .view-last)) hb (room-still W W₁ (b .name) (adopt-held W _) free) (adopts-regular W r br f R)) in
     record { regular = d .regular; still = d .still; written = omega (arith, d .written) })
 
@@ -141,12 +141,12 @@ unfolding propositionOf
 proposal-any W v b r hv hb f free R = go (eqb v (viewNow W))
   where
     adopted : Work
-    adopted = adopt W (safeCertificate (settings W) (certificateOf r))
+    adopted = adopt W (safeIn W (certificateOf r))
 
     go : (t : Bool) → Done (entryRoom + voteLength) W (holdVote v b (cond t adopted (progress r W)))
     go true =
         let R₁ = adopts-regular W r (f .bytes) (f .form) R in
-        done-then entryRoom voteLength W adopted _ (R₁, adopt-still W _) (omega (arith, ap length (adopt-out W (safeCertificate (settings W) (certificateOf r)))))
+        done-then entryRoom voteLength W adopted _ (R₁, adopt-still W _) (omega (arith, ap length (adopt-out W (safeIn W (certificateOf r)))))
         (hold-vote adopted v b hv hb (room-still W adopted (b .name) (adopt-held W _) free) R₁)
     go false =
         let p = progress-regular W r f R in

@@ -115,11 +115,11 @@ module _ (set : Settings) (w : World) (H : HighVoted (R set w)) (i : ℕ) (l₀ 
     proposed j v x y h k is f p t s b =
         let d = below-is W v (t .1 .0) in
         let small = leb-false lastView v (t .1 .1 .0) in
-        let good = and-true (progressGood (settings W) k) (eqb (suc (viewOfProgress k)) v) (not-false _ (t .1 .1 .1 .0)) in
+        let good = and-true _ _ (not-false _ (t .1 .1 .1 .0)) in
         let next = eqb-true (suc (viewOfProgress k)) v (good .1) in
         let inner = inner-is j v x y h k f is in
         let back : certificateOf (progressOf r) ≡ k = ap certificateOf inner ∙ certificate-back j k (f .0) (f .5) in
-        let place = or-false (not (sameBytes y (safeName W k))) (misplaced W (child W x y h)) (t .1 .1 .1 .1 .1 .1 .1 .0) in
+        let place = or-false _ _ (t .1 .1 .1 .1 .1 .1 .1 .0) in
         let parent = same-eq y (safeName W k) (not-false _ (place .0)) in
         let F = taken (progressOf r) j k (f .0) (omega (arith, next, small)) (f .5) (p .2) (good .0) inner (s .1) in
         let after : suc (viewOfProgress (certificateOf (progressOf r))) ≡ v = rw back next in

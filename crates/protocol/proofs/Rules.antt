@@ -22,7 +22,7 @@ use Rattle.counters.specs.Counters.{locksOf}
 use Rattle.protocol.specs.Work.{Work, settings, n, own, viewNow, timed, tip, blocks, heldBlock, send, adopt, enterBy}
 use Rattle.protocol.specs.Typed.{BlockTyped}
 use Rattle.protocol.specs.Refusals.{viewOfProgress}
-use Rattle.protocol.specs.Events.{withSender, commitAfter, progress}
+use Rattle.protocol.specs.Events.{mayCommit, safeIn, withSender, commitAfter, progress}
 use Rattle.protocol.specs.Rules.{ruleA, ruleB, ruleC, ruleD, enoughVotes, formedBlock, lowestPair, ballotViews, timeoutViews, each, again, settle}
 use Rattle.protocol.proofs.Typing.{all-take, held-typed}
 use Rattle.protocol.proofs.Regular.{EntryForm, Regular, Still, ProgressForm, still-refl, still-trans, send-regular, adopt-regular, adopt-still, enter-regular}
@@ -40,11 +40,11 @@ next-if W A B false a b = b refl
 -- ---- progress
 commit-after : (k : Certificate) (W : Work) → CertificateFits k → Regular W → Next W (commitAfter k W)
 unfolding CertificateFits
-commit-after (byBlock v x g) W f R = next-if W _ _ (ltb (timed W) v) (λ e. commit-regular W v x (f .1) R) (λ e. (R, still-refl W))
+commit-after (byBlock v x g) W f R = next-if W _ _ (mayCommit v W) (λ e. commit-regular W v x (f .1) R) (λ e. (R, still-refl W))
 commit-after (byTimeouts v ts) W f R = (R, still-refl W)
 
 -- the safe certificate of a record of the form is adopted
-pub adopts-regular : (W : Work) (r : List ℕ) → IsBytes r → EntryForm (n W) r → Regular W → Regular (adopt W (safeCertificate (settings W) (certificateOf r)))
+pub adopts-regular : (W : Work) (r : List ℕ) → IsBytes r → EntryForm (n W) r → Regular W → Regular (adopt W (safeIn W (certificateOf r)))
 adopts-regular W r b f R = adopt-regular W _ (fits-typed (settings W) (certificateOf r) (omega (arith, R .few)) (form-fits (n W) r b f)) R
 
 pub progress-regular : (W : Work) (r : List ℕ) → ProgressForm (n W) r → Regular W → Regular (progress r W) × Still W (progress r W)
@@ -52,7 +52,7 @@ unfolding progress adopt
 progress-regular W r f R =
     let k = certificateOf r in
     let s = withSender (own W) r in
-    let W₁ = adopt W (safeCertificate (settings W) k) in
+    let W₁ = adopt W (safeIn W k) in
     let R₁ : Regular W₁ = adopts-regular W r (f .bytes) (f .form) R in
     let W₂ = send W₁ s in
     let W₃ = enterBy W₂ (suc (viewOfProgress k)) s in

@@ -24,9 +24,9 @@ use Rattle.memory.specs.Layout.{entryRoom, timeoutRow}
 use Rattle.memory.specs.Kept.{keptCount}
 use Rattle.memory.specs.Decided.{noChoice, nextDecided}
 use Rattle.counters.specs.Counters.{locksOf}
-use Rattle.protocol.specs.Work.{Work, settings, n, own, viewNow, timed, heldBlock, send, keepVote, keepCommit, keepTimeout, adopt, enterBy, hold, sendVote, sendCommit, ownTimeout, sendTimeout}
+use Rattle.protocol.specs.Work.{commitRecord, voteRecord, Work, settings, n, own, viewNow, timed, heldBlock, send, keepVote, keepCommit, keepTimeout, adopt, enterBy, hold, sendVote, sendCommit, ownTimeout, sendTimeout}
 use Rattle.protocol.specs.Refusals.{viewOfProgress}
-use Rattle.protocol.specs.Events.{withSender, commitAfter, progress}
+use Rattle.protocol.specs.Events.{mayCommit, safeIn, withSender, commitAfter, progress}
 use Rattle.protocol.specs.Rules.{ruleA, ruleB, ruleC, enoughVotes, formedBlock}
 use Rattle.protocol.proofs.Regular.{EntryForm, Regular, ProgressForm}
 use Rattle.protocol.proofs.Actions.{own-timeout-fits}
@@ -51,11 +51,11 @@ send-out W r = length-append (W .out) r
 
 pub vote-out : (W : Work) (v : ℕ) (x : List ℕ) → IsName x → length (sendVote v x W .out) ≡ length (W .out) + voteLength
 unfolding sendVote keepVote
-vote-out W v x h = omega (arith, length-append (W .out) (voteBytes 1 (own W) v x), length-vote x h 1 (own W) v)
+vote-out W v x h = omega (arith, length-append (W .out) (voteRecord W v x), length-vote x h 1 (own W) v)
 
 pub commit-out : (W : Work) (v : ℕ) (x : List ℕ) → IsName x → length (sendCommit v x W .out) ≡ length (W .out) + voteLength
 unfolding sendCommit keepCommit
-commit-out W v x h = omega (arith, length-append (W .out) (voteBytes 2 (own W) v x), length-vote x h 2 (own W) v)
+commit-out W v x h = omega (arith, length-append (W .out) (commitRecord W v x), length-vote x h 2 (own W) v)
 
 pub timeout-out : (W : Work) (v : ℕ) → IsU64 v → Regular W → length (sendTimeout v W .out) ≡ length (W .out) + timeoutLength
 unfolding sendTimeout keepTimeout
@@ -76,7 +76,7 @@ commitRoom (byTimeouts v ts) = 0
 
 commit-after-out : (k : Certificate) (W : Work) → CertificateFits k → Grows (commitRoom k) W (commitAfter k W)
 unfolding CertificateFits
-commit-after-out (byBlock v x g) W f = grows-if voteLength W _ _ (ltb (timed W) v) (λ e. omega (arith, commit-out W v x (f .1))) (λ e. omega arith)
+commit-after-out (byBlock v x g) W f = grows-if voteLength W _ _ (mayCommit v W) (λ e. omega (arith, commit-out W v x (f .1))) (λ e. omega arith)
 commit-after-out (byTimeouts v ts) W f = omega arith
 
 progress-room : (W : Work) (r : List ℕ) → CertificateFits (certificateOf r) → Grows (length r + commitRoom (certificateOf r)) W (progress r W)
@@ -84,7 +84,7 @@ unfolding progress adopt enterBy
 progress-room W r f =
     let k = certificateOf r in
     let s = withSender (own W) r in
-    let W₁ = adopt W (safeCertificate (settings W) k) in
+    let W₁ = adopt W (safeIn W k) in
     let W₃ = enterBy (send W₁ s) (suc (viewOfProgress k)) s in
     let sent : length (W₃ .out) ≡ length (W .out) + length r = omega (arith, length-append (W .out) s, length-patch r 6 (leBytes 2 (own W))) in
     grows-if (length r + commitRoom k) W (commitAfter k W₃) W₁ (leb (viewNow W) (viewOfProgress k))

@@ -17,9 +17,20 @@ use Rattle.protocol.specs.Refusals.{viewOfProgress, child, nextBlock}
 abbrev pub withSender : ℕ → List ℕ → List ℕ
 withSender j r = patch r 6 (leBytes 2 j)
 
+-- its safe certificate, by the replica's settings
+abbrev pub safeIn : Work → Certificate → Rattle.certificate.specs.declared.Certificate.Certificate
+safeIn W k = safeCertificate (settings W) k
+
+-- "if timed < w", and "if timed < v and high vote is below v"
+abbrev pub mayCommit : ℕ → Work → Bool
+mayCommit v W = ltb (timed W) v
+
+abbrev pub mayVote : ℕ → Work → Bool
+mayVote v W = ltb (timed W) v && ltb (highView W) v
+
 -- "send a commit for w if timed < w", after a block certificate alone
 abbrev pub commitAfter : Certificate → Work → Work
-commitAfter (byBlock v x g) W = cond (ltb (timed W) v) (sendCommit v x W) W
+commitAfter (byBlock v x g) W = cond (mayCommit v W) (sendCommit v x W) W
 commitAfter (byTimeouts v ts) W = W
 
 -- "Block certificate of view w: adopt. If w ≥ view: send it, enter w+1, and send a commit for w if timed < w."
@@ -30,16 +41,16 @@ progress r W =
     let k = certificateOf r in
     let v = viewOfProgress k in
     let s = withSender (own W) r in
-    let W₁ = adopt W (safeCertificate (settings W) k) in
+    let W₁ = adopt W (safeIn W k) in
     cond (leb (viewNow W) v) (commitAfter k (enterBy (send W₁ s) (suc v) s)) W₁
 
 -- "Proposal of view v: do what its certificate does (only adopt, if v is the current view); hold the block; if timed < v and high vote is below v,
 -- vote for it and make it high vote."
 unfoldable pub propositionOf : ℕ → Block → List ℕ → Work → Work
 propositionOf v b r W =
-    let W₁ = cond (eqb v (viewNow W)) (adopt W (safeCertificate (settings W) (certificateOf r))) (progress r W) in
+    let W₁ = cond (eqb v (viewNow W)) (adopt W (safeIn W (certificateOf r))) (progress r W) in
     let W₂ = hold W₁ b in
-    cond (ltb (timed W₂) v && ltb (highView W₂) v) (sendVote v (b .name) W₂) W₂
+    cond (mayVote v W₂) (sendVote v (b .name) W₂) W₂
 
 -- by kind; r is the record
 unfoldable pub onRecord : List ℕ → Content → Work → Work

@@ -4,7 +4,7 @@ use Prim.Native.Nat.{ℕ, _≤_}
 use mathlib.Core.Path.{_≡_}
 use mathlib.Core.List.{List, [], _∷_}
 use lib.ListN.{length, drop}
-use Rattle.settings.specs.Answer.{accepts, refuses, judge}
+use Rattle.settings.specs.Answer.{accepts, refuses, Rule, judge}
 use Rattle.codec.specs.Bytes.{IsBytes}
 use Rattle.wire.specs.Fit.{IsName, IsU64}
 use Rattle.memory.specs.Layout.{settingsOf, ownOf}
@@ -34,6 +34,11 @@ ReplicaTyped r = Typed (begin r)
 -- what a call leaves to the next one
 abbrev pub left : Outcome → Replica
 left o = record { counters = o .counters; memory = o .memory; store = o .store }
+
+-- "Refusals, by place, in this order": the numbers of the rules ascend from low on
+unfoldable pub InOrder : ℕ → List Rule → Type 0
+InOrder low [] = Unit {0}
+InOrder low (r ∷ rules) = (low ≤ r .number) × InOrder (r .number) rules
 
 -- ---- a refused call: the reply is the refusal, and everything is as it was
 pub record Untouched (r : Replica) (output : List ℕ) (a : ℕ) (o : Outcome) : Type 0 where

@@ -104,14 +104,21 @@ module _ (W : Work) where
       cond (heldBlock (b .name) .is) W
       (record { counters = W .counters; memory = withBlockCount (W .memory) (k + 1); store = set (W .store) k b; out = W .out })
 
+-- ---- the own votes and commits, as records
+abbrev pub voteRecord : Work → ℕ → List ℕ → List ℕ
+voteRecord W v x = voteBytes 1 (own W) v x
+
+abbrev pub commitRecord : Work → ℕ → List ℕ → List ℕ
+commitRecord W v x = voteBytes 2 (own W) v x
+
 -- ---- "Own votes, commits and timeouts count": what is sent is kept too
 unfoldable pub sendVote : ℕ → List ℕ → Work → Work
 sendVote v x W =
     let W₁ = withCounters W (voting (W .counters) (record { view = view v; name = x })) in
-    keepVote (send W₁ (voteBytes 1 (own W) v x)) v (own W) x
+    keepVote (send W₁ (voteRecord W v x)) v (own W) x
 
 unfoldable pub sendCommit : ℕ → List ℕ → Work → Work
-sendCommit v x W = keepCommit (send W (voteBytes 2 (own W) v x)) v (own W) x
+sendCommit v x W = keepCommit (send W (commitRecord W v x)) v (own W) x
 
 -- "send a timeout (high vote, and the higher of lock and best weak); timed = view"
 unfoldable pub ownTimeout : Work → ℕ → Timeout
