@@ -4,12 +4,6 @@ pub mod Actions
 pub mod Forms
 pub mod Rules
 pub mod Opened
-pub mod Written
-pub mod Output
-pub mod Proposals
-pub mod Events
-pub mod OneCall
-pub mod Regions
 pub mod FormedRead
 pub mod Advance
 pub mod Turning
@@ -21,6 +15,14 @@ pub mod LoopC
 pub mod Releasable
 pub mod LoopD
 pub mod Loop
+pub mod Settling
+pub mod Written
+pub mod Output
+pub mod Proposals
+pub mod Events
+pub mod OneCall
+pub mod Regions
+pub mod Places
 pub mod Holding
 pub mod World
 pub mod Chain
@@ -39,4 +41,3 @@ pub mod Calling
 pub mod Keeping
 pub mod Demand3
 pub mod Whole
-pub mod Places

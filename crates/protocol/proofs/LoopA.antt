@@ -10,7 +10,7 @@ use Rattle.codec.proofs.Order.{and-true, which}
 use Rattle.memory.specs.Window.{highest}
 use Rattle.counters.specs.Counters.{timing}
 use Rattle.protocol.specs.Work.{Work, settings, viewNow, timed, sendTimeout}
-use Rattle.protocol.specs.Rules.{ruleA, each, timeoutViews}
+use Rattle.protocol.specs.Rules.{testA, ruleA, each, timeoutViews}
 use Rattle.protocol.specs.Applies.{timeoutsKept, AppliesA, NoA, byA, rest, turn}
 use Rattle.protocol.proofs.Regular.{Regular}
 use Rattle.protocol.proofs.Actions.{timeout-regular}
@@ -19,16 +19,13 @@ use Rattle.protocol.proofs.Turning.{by-cases, Led, each-led}
 
 -- the test of rule A at a view of the window is when it applies
 module _ (w : ℕ) (W : Work) where
-  abbrev testA : Bool
-  testA = leb (viewNow W) w && (ltb (timed W) w && leb (suc (settings W .f)) (timeoutsKept w W))
-
-  passes-A : AppliesA w W → testA ≡ true
+  passes-A : AppliesA w W → testA w W ≡ true
   passes-A a = rw (le-leb (viewNow W) w (timeout-window (viewNow W) w (a .window) .from), lt-ltb (timed W) w (a .untimed), le-leb (suc (settings W .f)) (timeoutsKept w W) (a .enough))
 
-  applies-A : w ≤ highest (viewNow W) → testA ≡ true → AppliesA w W
+  applies-A : w ≤ highest (viewNow W) → testA w W ≡ true → AppliesA w W
   applies-A h e =
-      let p = and-true (leb (viewNow W) w) (ltb (timed W) w && leb (suc (settings W .f)) (timeoutsKept w W)) e in
-      let q = and-true (ltb (timed W) w) (leb (suc (settings W .f)) (timeoutsKept w W)) (p .1) in
+      let p = and-true _ _ e in
+      let q = and-true _ _ (p .1) in
       let a = leb-true (viewNow W) w (p .0) in
       record {
         window = in-timeouts (viewNow W) w (record { from = a; to = omega arith; below = omega arith });

@@ -18,7 +18,7 @@ use Rattle.memory.specs.Formed.{formed}
 use Rattle.counters.specs.Counters.{entering}
 use Rattle.protocol.specs.Work.{Work, settings, n, own, viewNow, send, adopt, enterBy}
 use Rattle.protocol.specs.Events.{safeIn, withSender, progress}
-use Rattle.protocol.specs.Rules.{ruleB, each, timeoutViews}
+use Rattle.protocol.specs.Rules.{testB, ruleB, each, timeoutViews}
 use Rattle.protocol.specs.Applies.{timeoutsKept, AppliesB, runB, NoA, NoB, byB, rest, turn}
 use Rattle.protocol.proofs.Regular.{Regular}
 use Rattle.protocol.proofs.Rules.{B-regular}
@@ -51,22 +51,19 @@ module _ (w : ℕ) (W : Work) (R : Regular W) (h : viewNow W ≤ w) (l : w < las
 
 -- the test of rule B at a view of the window is when it applies
 module _ (w : ℕ) (W : Work) where
-  abbrev testB : Bool
-  testB = leb (viewNow W) w && leb (timeoutQuorum (settings W)) (timeoutsKept w W)
-
-  passes-B : AppliesB w W → testB ≡ true
+  passes-B : AppliesB w W → testB w W ≡ true
   passes-B a = rw (le-leb (viewNow W) w (timeout-window (viewNow W) w (a .window) .from), le-leb (timeoutQuorum (settings W)) (timeoutsKept w W) (a .enough))
 
-  applies-B : w ≤ highest (viewNow W) → testB ≡ true → AppliesB w W
+  applies-B : w ≤ highest (viewNow W) → testB w W ≡ true → AppliesB w W
   applies-B h e =
-      let p = and-true (leb (viewNow W) w) (leb (timeoutQuorum (settings W)) (timeoutsKept w W)) e in
+      let p = and-true _ _ e in
       let a = leb-true (viewNow W) w (p .0) in
       record {
         window = in-timeouts (viewNow W) w (record { from = a; to = omega arith; below = omega arith });
         enough = leb-true (timeoutQuorum (settings W)) (timeoutsKept w W) (p .1);
       }
 
-  runs-B : testB ≡ true → ruleB w W ≡ runB w W
+  runs-B : testB w W ≡ true → ruleB w W ≡ runB w W
   unfolding ruleB
   runs-B e = rw e
 

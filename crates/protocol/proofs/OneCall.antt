@@ -24,7 +24,7 @@ use Rattle.protocol.specs.Calls.{Replica, begin, recordCore, timerCore, 
 use Rattle.protocol.specs.OneCall.{Call, receive, timer, propose, CallTyped, callOn, ReplicaTyped, left, Untouched, Wrote, Same, Passes, Handing, HandingTyped, after}
 use Rattle.protocol.proofs.Regular.{Regular, Still, regular-rules, rules-regular, regular-after, still-trans}
 use Rattle.protocol.proofs.Actions.{same-still}
-use Rattle.protocol.proofs.Rules.{settle-regular}
+use Rattle.protocol.proofs.Settling.{settle-regular}
 use Rattle.protocol.proofs.Output.{settleRoom, settle-out}
 use Rattle.protocol.proofs.Proposals.{Done}
 use Rattle.protocol.proofs.Events.{eventRoom, record-done, timer-done, propose-done}

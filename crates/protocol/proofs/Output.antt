@@ -27,7 +27,7 @@ use Rattle.memory.proofs.Header.{count-put}
 use Rattle.protocol.specs.Work.{Work, n, own, viewNow, tip, blocks, heldBlock, release}
 use Rattle.protocol.specs.Typed.{BlockTyped}
 use Rattle.protocol.specs.Refusals.{storeLength}
-use Rattle.protocol.specs.Rules.{ruleA, ruleB, ruleC, ruleD, enoughToRelease, releasable, Pair, lowestPair, ballotViews, timeoutViews, each, again, settle}
+use Rattle.protocol.specs.Rules.{tries, ruleA, ruleB, ruleC, ruleD, enoughToRelease, releasable, Pair, lowestPair, ballotViews, timeoutViews, each, again, settle}
 use Rattle.protocol.proofs.Typing.{all-take, all-append}
 use Rattle.protocol.proofs.Regular.{Regular, Still}
 use Rattle.protocol.proofs.Rules.{A-regular, B-regular, C-regular, D-regular, each-regular, held-block-typed}
@@ -59,15 +59,15 @@ releasable-is v W (suc k) after e =
 pub lowest-is : (v k : ℕ) (W : Work) → lowestPair v k W .name .some ≡ true → Releasable W (lowestPair v k W .name .name)
 unfolding lowestPair
 lowest-is v zero W e = absurd (false≢true e)
-lowest-is v (suc k) W e = go (releasable v W (n W + n W + 1) noChoice .some) refl (lowest-is (suc v) k W) e
+lowest-is v (suc k) W e = go (releasable v W (tries W) noChoice .some) refl (lowest-is (suc v) k W) e
   where
     x : Choice
-    x = releasable v W (n W + n W + 1) noChoice
+    x = releasable v W (tries W) noChoice
 
     go : (t : Bool) → x .some ≡ t → (lowestPair (suc v) k W .name .some ≡ true → Releasable W (lowestPair (suc v) k W .name .name))
         → cond t (record { at = v; name = x }) (lowestPair (suc v) k W) .name .some ≡ true
         → Releasable W (cond t (record { at = v; name = x }) (lowestPair (suc v) k W) .name .name)
-    go true d ih h = releasable-is v W (n W + n W + 1) noChoice d
+    go true d ih h = releasable-is v W (tries W) noChoice d
     go false d ih h = ih h
 
 -- ---- what releases write

@@ -20,7 +20,7 @@ use Rattle.memory.specs.Decided.{noChoice, above, decided, nextDecided}
 use Rattle.memory.proofs.Bits.{counted, counted-le}
 use Rattle.memory.proofs.Choosing.{Entry, Candidate, next-least, next-candidate, next-none}
 use Rattle.protocol.specs.Work.{Work, settings, n, tip, blocks, heldBlock}
-use Rattle.protocol.specs.Rules.{enoughToRelease, releasable}
+use Rattle.protocol.specs.Rules.{tries, enoughToRelease, releasable}
 use Rattle.protocol.specs.Applies.{votesFor, commitsFor}
 use Rattle.protocol.proofs.Backed.{backed-entry}
 
@@ -197,10 +197,10 @@ module _ (w : ℕ) (W : Work) where
 
   -- THE NAME TO RELEASE at view w
   abbrev pub theRelease : Choice
-  theRelease = releasable w W (n W + n W + 1) noChoice
+  theRelease = releasable w W (tries W) noChoice
 
   finds : Finds noChoice theRelease
-  finds = search-finds (n W + n W + 1) noChoice (omega (arith, left-most))
+  finds = search-finds (tries W) noChoice (omega (arith, left-most))
 
   no-bound : (y : List ℕ) → above noChoice y ≡ true
   unfolding above

@@ -23,7 +23,7 @@ use Rattle.protocol.specs.Work.{Work, settings, n, own, viewNow, timed, 
 use Rattle.protocol.specs.Typed.{BlockTyped}
 use Rattle.protocol.specs.Refusals.{viewOfProgress}
 use Rattle.protocol.specs.Events.{mayCommit, safeIn, withSender, commitAfter, progress}
-use Rattle.protocol.specs.Rules.{ruleA, ruleB, ruleC, ruleD, enoughVotes, formedBlock, lowestPair, ballotViews, timeoutViews, each, again, settle}
+use Rattle.protocol.specs.Rules.{testA, testB, ruleA, ruleB, ruleC, ruleD, enoughVotes, formedBlock, lowestPair, ballotViews, timeoutViews, each, again, settle}
 use Rattle.protocol.proofs.Typing.{all-take, held-typed}
 use Rattle.protocol.proofs.Regular.{EntryForm, Regular, Still, ProgressForm, still-refl, still-trans, send-regular, adopt-regular, adopt-still, enter-regular}
 use Rattle.protocol.proofs.Actions.{same-still, commit-regular, timeout-regular, release-regular}
@@ -65,13 +65,13 @@ progress-regular W r f R =
 pub A-regular : (W : Work) (v : ℕ) → v < lastView → Regular W → Regular (ruleA v W) × Still W (ruleA v W)
 unfolding ruleA
 A-regular W v h R =
-    next-if W _ _ (leb (viewNow W) v && (ltb (timed W) v && leb (suc (settings W .f)) (keptCount (W .memory) (timeoutRow v) (n W))))
+    next-if W _ _ (testA v W)
     (λ e. timeout-regular W v (omega arith) R) (λ e. (R, still-refl W))
 
 pub B-regular : (W : Work) (v : ℕ) → v < lastView → Regular W → Regular (ruleB v W) × Still W (ruleB v W)
 unfolding ruleB
 B-regular W v h R =
-    next-if W _ _ (leb (viewNow W) v && leb (timeoutQuorum (settings W)) (keptCount (W .memory) (timeoutRow v) (n W)))
+    next-if W _ _ (testB v W)
     (λ e. progress-regular W _ (formed-form (W .memory) v (n W) (own W) (R .typed .memory) (R .memory-long) (R .few) (R .member) h) R) (λ e. (R, still-refl W))
 
 -- the certificate that rule C forms, if a name is decided
@@ -115,23 +115,3 @@ each-regular rule h v (suc k) W l R =
     let a = h W v (omega arith) R in
     let b = each-regular rule h (suc v) k (rule v W) (omega arith) (a .0) in
     (b .0, still-trans W (rule v W) _ (a .1) (b .1))
-
-pub again-regular : (k : ℕ) (W : Work) → Regular W → Regular (again k W) × Still W (again k W)
-unfolding again
-again-regular zero W R = (R, still-refl W)
-again-regular (suc k) W R =
-    let a = D-regular W R in
-    let b = again-regular k (ruleD W) (a .0) in
-    (b .0, still-trans W (ruleD W) _ (a .1) (b .1))
-
-pub settle-regular : (W : Work) → Regular W → Regular (settle W) × Still W (settle W)
-unfolding settle
-settle-regular W R =
-    let A = each ruleA (viewNow W) (timeoutViews W) W in
-    let a : Next W A = each-regular ruleA A-regular (viewNow W) (timeoutViews W) W (omega (arith, R .view-last)) R in
-    let B = each ruleB (viewNow A) (timeoutViews A) A in
-    let b : Next A B = each-regular ruleB B-regular (viewNow A) (timeoutViews A) A (omega (arith, a .0 .view-last)) (a .0) in
-    let C = each ruleC (lowest (viewNow B)) (ballotViews B) B in
-    let c : Next B C = each-regular ruleC C-regular (lowest (viewNow B)) (ballotViews B) B (omega (arith, b .0 .view-last)) (b .0) in
-    let d = again-regular (length (blocks C)) C (c .0) in
-    (d .0, still-trans W A _ (a .1) (still-trans A B _ (b .1) (still-trans B C _ (c .1) (d .1))))

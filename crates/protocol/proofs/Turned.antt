@@ -33,14 +33,13 @@ use Rattle.protocol.specs.Events.{progress}
 use Rattle.protocol.specs.Rules.{settle}
 use Rattle.protocol.specs.Applies.{AppliesA, AppliesB, AppliesC, AppliesD, runA, runB, runC, runD, signersFor, Turn, byA, byB, byC, byD, Turns, rest, turn}
 use Rattle.protocol.proofs.Regular.{Regular}
-use Rattle.protocol.proofs.Actions.{own-timeout-fits, timeout-regular, release-regular}
-use Rattle.protocol.proofs.Rules.{progress-regular, held-block-typed}
-use Rattle.protocol.proofs.Forms.{form-view, form-fits, formed-form, block-form, tally-u64}
+use Rattle.protocol.proofs.Actions.{own-timeout-fits}
+use Rattle.protocol.proofs.Forms.{form-view, form-fits, formed-form, tally-u64}
 use Rattle.protocol.proofs.FormedRead.{formed-read, block-view, block-read}
 use Rattle.protocol.proofs.Advance.{timeout-window, ballot-window}
-use Rattle.protocol.proofs.Backed.{backed-entry, entry-name}
 use Rattle.protocol.proofs.LoopD.{applied-in}
 use Rattle.protocol.proofs.Loop.{settle-is-the-loop}
+use Rattle.protocol.proofs.Settling.{voted-name, turn-regular}
 use Rattle.protocol.proofs.World.{Name, World, R, size, Real}
 use Rattle.protocol.proofs.Records.{joined-more, joined-append, encode-framed, release-framed, block-framed, timeouts-framed}
 use Rattle.protocol.proofs.Steps.{size-is, few, all-more, all-one}
@@ -125,9 +124,7 @@ module _ (set : Settings) (w : World) (H : HighVoted (R set w)) (i : ℕ) (l₀ 
         let k = ballot-window (viewNow W) v (a .window) in
         let e = nset z in
         let s = X .set-is in
-        let r = X .regular in
-        let name = entry-name (W .memory) (voteRow v) (n W) x (r .few) (r .typed .memory) (omega (arith, row-fits votes v, r .memory-long))
-        (backed-entry (W .memory) (voteRow v) x (n W) (omega (arith, a .enough))) in
+        let name = voted-name W (X .regular) v x a in
         subst (λ (k : ℕ). TakenAt set w v (blockCertificateBytes (own W) v x (tally (W .memory) (voteRow v) x k .signers))) (sym e)
         (block-taken set w H (W .memory) v x (own W) (low z) (few set w i (viewNow W) W (l₀ ++ S .made) X) (k .below) name
         (λ j h b. X .tables .votes-true v j (record { first = k .from; last = k .to }) h b)
@@ -208,10 +205,6 @@ module _ (set : Settings) (w : World) (H : HighVoted (R set w)) (i : ℕ) (l₀ 
       let f = formed-form (W .memory) v (n W) (own W) (reg .typed .memory) (reg .memory-long) (reg .few) (reg .member) (timeout-window (viewNow W) v (a .window) .below) in
       form-fits (n W) (formed (W .memory) v (n W) (own W)) (f .bytes) (f .form)
 
-  voted-name : (W : Work) → Regular W → (v : ℕ) (x : Name) → AppliesC v x W → IsName x
-  voted-name W r v x a =
-      entry-name (W .memory) (voteRow v) (n W) x (r .few) (r .typed .memory) (omega (arith, row-fits votes v, r .memory-long)) (backed-entry (W .memory) (voteRow v) x (n W) (omega (arith, a .enough)))
-
   block-fit : (W : Work) → Regular W → (v : ℕ) (x : Name) → AppliesC v x W → CertificateFits (certificateOf (blockCertificateBytes (own W) v x (signersFor v W x)))
   unfolding CertificateFits
   block-fit W r v x a =
@@ -219,14 +212,6 @@ module _ (set : Settings) (w : World) (H : HighVoted (R set w)) (i : ℕ) (l₀ 
       let small = ballot-window (viewNow W) v (a .window) .below in
       let word = tally-u64 (W .memory) (voteRow v) x (n W) (r .few) in
       rw (block-read (own W) v x (signersFor v W x) (omega (arith, r .member, r .few)) small name word) (omega (arith, small), name, word)
-
-  turn-regular : (W W′ : Work) → Regular W → Turn W W′ → Regular W′
-  turn-regular W W′ r (byA v a) = timeout-regular W v (omega (arith, timeout-window (viewNow W) v (a .here .window) .below)) r .0
-  turn-regular W W′ r (byB v n a) =
-      progress-regular W _ (formed-form (W .memory) v _ (own W) (r .typed .memory) (r .memory-long) (r .few) (r .member) (timeout-window (viewNow W) v (a .here .window) .below)) r .0
-  turn-regular W W′ r (byC v x n m a) =
-      progress-regular W _ (block-form (own W) v x (signersFor v W x) (omega (arith, r .member, r .few)) (ballot-window (viewNow W) v (a .here .window) .below) (voted-name W r v x (a .here)) (tally-u64 (W .memory) (voteRow v) x _ (r .few)) _) r .0
-  turn-regular W W′ r (byD v x n m o a) = release-regular W v (heldBlock W x .block) (held-block-typed W x r) r .0
 
   -- ONE TURN, and any number of them
   turn-sound : (W W′ : Work) → Regular W → Turn W W′ → Sound set w i l₀ W → Sound set w i l₀ W′
@@ -239,7 +224,7 @@ module _ (set : Settings) (w : World) (H : HighVoted (R set w)) (i : ℕ) (l₀ 
 
   turns-sound : (W W′ : Work) → Regular W → Turns W W′ → Sound set w i l₀ W → Sound set w i l₀ W′
   turns-sound W W′ reg rest S = S
-  turns-sound W W′ reg (turn {W₁ = W₁} t more) S = turns-sound W₁ W′ (turn-regular W W₁ reg t) more (turn-sound W W₁ reg t S)
+  turns-sound W W′ reg (turn {W₁ = W₁} t more) S = turns-sound W₁ W′ (turn-regular W W₁ reg t .0) more (turn-sound W W₁ reg t S)
 
   -- THE RULES KEEP THE INVARIANT: their run is such turns
   pub settle-sound : (W : Work) → Regular W → Sound set w i l₀ W → Sound set w i l₀ (settle W)

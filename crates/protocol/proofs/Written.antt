@@ -27,7 +27,7 @@ use Rattle.counters.specs.Counters.{locksOf}
 use Rattle.protocol.specs.Work.{commitRecord, voteRecord, Work, settings, n, own, viewNow, timed, heldBlock, send, keepVote, keepCommit, keepTimeout, adopt, enterBy, hold, sendVote, sendCommit, ownTimeout, sendTimeout}
 use Rattle.protocol.specs.Refusals.{viewOfProgress}
 use Rattle.protocol.specs.Events.{mayCommit, safeIn, withSender, commitAfter, progress}
-use Rattle.protocol.specs.Rules.{ruleA, ruleB, ruleC, enoughVotes, formedBlock}
+use Rattle.protocol.specs.Rules.{testA, testB, ruleA, ruleB, ruleC, enoughVotes, formedBlock}
 use Rattle.protocol.proofs.Regular.{EntryForm, Regular, ProgressForm}
 use Rattle.protocol.proofs.Actions.{own-timeout-fits}
 use Rattle.protocol.proofs.Forms.{form-fits, formed-form}
@@ -113,13 +113,13 @@ progress-out W r f few = by-form (f .form)
 pub A-out : (W : Work) (v : ℕ) → v < lastView → Regular W → Grows timeoutLength W (ruleA v W)
 unfolding ruleA
 A-out W v h R =
-    grows-if timeoutLength W _ _ (leb (viewNow W) v && (ltb (timed W) v && leb (suc (settings W .f)) (keptCount (W .memory) (timeoutRow v) (n W))))
+    grows-if timeoutLength W _ _ (testA v W)
     (λ e. omega (arith, timeout-out W v (omega arith) R)) (λ e. omega arith)
 
 pub B-out : (W : Work) (v : ℕ) → v < lastView → Regular W → Grows entryRoom W (ruleB v W)
 unfolding ruleB
 B-out W v h R =
-    grows-if entryRoom W _ _ (leb (viewNow W) v && leb (timeoutQuorum (settings W)) (keptCount (W .memory) (timeoutRow v) (n W)))
+    grows-if entryRoom W _ _ (testB v W)
     (λ e. progress-out W _ (formed-form (W .memory) v (n W) (own W) (R .typed .memory) (R .memory-long) (R .few) (R .member) h) (R .few)) (λ e. omega arith)
 
 pub C-out : (W : Work) (v : ℕ) → v < lastView → Regular W → Grows (blockCertificateLength + voteLength) W (ruleC v W)

@@ -22,16 +22,18 @@ use Rattle.protocol.specs.Events.{progress}
 
 module _ (v : ℕ) (W : Work) where
   -- "A, f+1 timeouts of a view w ≥ view with timed < w: send one for w and set timed to w."
+  abbrev pub testA : Bool
+  testA = leb (viewNow W) v && (ltb (timed W) v && leb (suc (settings W .f)) (keptCount (W .memory) (timeoutRow v) (n W)))
+
   unfoldable pub ruleA : Work
-  ruleA =
-      cond (leb (viewNow W) v && (ltb (timed W) v && leb (suc (settings W .f)) (keptCount (W .memory) (timeoutRow v) (n W))))
-      (sendTimeout v W) W
+  ruleA = cond testA (sendTimeout v W) W
 
   -- "B, enough timeouts of a view ≥ view: form the certificate of all that are kept for it."
+  abbrev pub testB : Bool
+  testB = leb (viewNow W) v && leb (timeoutQuorum (settings W)) (keptCount (W .memory) (timeoutRow v) (n W))
+
   unfoldable pub ruleB : Work
-  ruleB =
-      cond (leb (viewNow W) v && leb (timeoutQuorum (settings W)) (keptCount (W .memory) (timeoutRow v) (n W)))
-      (progress (formed (W .memory) v (n W) (own W)) W) W
+  ruleB = cond testB (progress (formed (W .memory) v (n W) (own W)) W) W
 
   -- "C, enough votes whose certificate outranks the lock: form it, its signers all boxes with that kept vote."
   abbrev pub enoughVotes : Quest
@@ -59,7 +61,11 @@ module _ (v : ℕ) (W : Work) where
       let later = releasable k x in
       cond (x .some) (cond (b .is && descends (tip W) (blocks W) (b .block)) x later) noChoice
 
--- the lowest view from v on, of k views, in which a block can be released; no name of a view has more than n votes and n commits
+-- a view has at most n kept votes and n kept commits, and so no more names than that
+abbrev pub tries : Work → ℕ
+tries W = n W + n W + 1
+
+-- the lowest view from v on, of k views, in which a block can be released
 pub record Pair : Type 0 where
   pub at : ℕ
   pub name : Choice
@@ -67,7 +73,7 @@ pub record Pair : Type 0 where
 unfoldable pub lowestPair : ℕ → ℕ → Work → Pair
 lowestPair v zero W = record { at = v; name = noChoice }
 lowestPair v (suc k) W =
-    let x = releasable v W (n W + n W + 1) noChoice in
+    let x = releasable v W (tries W) noChoice in
     let later = lowestPair (suc v) k W in
     cond (x .some) (record { at = v; name = x }) later
 
