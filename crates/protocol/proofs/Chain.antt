@@ -18,14 +18,16 @@ use Rattle.blocks.specs.declared.Found.{Found}
 use Rattle.blocks.specs.Store.{found, missing, find, held, below, descends, ancestry, kept}
 use Rattle.blocks.specs.Steps.{onwardOf}
 use Rattle.blocks.proofs.Ancestry.{never, goes-below, descends-on, descends-off, lower, ancestry-on, ancestry-off}
-use Rattle.blocks.proofs.Linked.{In, find-in, held-in, last-tests}
+use Rattle.blocks.proofs.Linked.{In, AllIn, all-more, find-in, held-in, last-tests, ancestry-last}
 use Rattle.blocks.proofs.Filled.{find-append}
 use Rattle.blocks.proofs.Kept.{kept-in, in-kept}
 use Rattle.blocks.proofs.Fewer.{descends-higher}
 use Rattle.safety.specs.Cluster.{Direct}
 use Rattle.safety.specs.Rows.{Row, Upward, firsts, number}
 use Rattle.safety.proofs.Rows.{row-upward, number-append}
-use Rattle.protocol.proofs.World.{World, R, rowIn, ParentHeld, Stored, Chained}
+use Rattle.wire.specs.Fit.{All}
+use Rattle.protocol.proofs.Typing.{all-append}
+use Rattle.protocol.proofs.World.{World, R, rowIn, ParentHeld, Stored, Named, Chained}
 
 -- ---- searching
 is-found : (f : Found) (c : Block) → f ≡ found c → f .is ≡ true
@@ -106,6 +108,7 @@ module _ (set : Settings) (w : World) where
       direct = C .direct;
       numbered = C .numbered;
       tip-height = C .tip-height;
+      named = C .named;
       tip-le = C .tip-le;
       stored = λ c p. ⊎-elim
           (λ q. let s = C .stored c q in record { born = s .born; height-le = s .height-le; over-tip = s .over-tip; parent-held = parent-more c (s .parent-held) })
@@ -206,6 +209,17 @@ module _ (set : Settings) (w : World) where
       firsts-append [] k = refl
       firsts-append (a ∷ m) k = ap (λ (x : List (List ℕ)). a .0 ∷ x) (firsts-append m k)
 
+      -- each block of the line was born with its height
+      stored-named : (row : List Block) → AllIn row store → All (Named set w) (pairs row)
+      unfolding All
+      stored-named [] a = tt
+      stored-named (c ∷ row) a = ((c, C .stored c (a .0) .born, refl, refl), stored-named row (a .1))
+
+      line-named : All (Named set w) (pairs (ancestry tip store b))
+      line-named =
+          let r = ancestry-last tip store b d in
+          subst (λ (row : List Block). All (Named set w) (pairs row)) (sym (r .1 .0)) (stored-named (r .0 ++ (b ∷ [])) (all-more (r .0) store b (r .1 .1) p))
+
       firsts-rows : firsts (rowIn l′) ≡ firsts (rowIn l) ++ names (ancestry tip store b)
       firsts-rows = ap firsts rows ∙ firsts-append (rowIn l) (pairs (ancestry tip store b)) ∙ ap (λ (k : List (List ℕ)). firsts (rowIn l) ++ k) (firsts-pairs (ancestry tip store b))
 
@@ -236,6 +250,7 @@ module _ (set : Settings) (w : World) where
         direct = inr (v, direct);
         numbered = rw (firsts-rows, number-append) (rows ∙ rw (up .numbered) (number-rest (C .numbered)));
         tip-height = rw (rows, length-append) (omega (arith, up .height, C .tip-height, length-map {B = List ℕ × ℕ} (ancestry tip store b) (λ (c : Block). (c .name, c .height .0))));
+        named = rw rows (all-append (Named set w) (rowIn l) (pairs (ancestry tip store b)) (C .named) line-named);
         tip-le = C .stored b p .height-le;
         stored = λ c i.
             let q = in-rest c i in

@@ -22,10 +22,10 @@ use Rattle.safety.specs.Lists.{In}
 use Rattle.safety.specs.Cluster.{Cluster, HighVoted, EnoughHonest}
 use Rattle.safety.specs.Rows.{firsts, OneParent, nothing, up-to, Released}
 use Rattle.safety.proofs.Lists.{in-right, in-append, in-all}
-use Rattle.safety.specs.Run.{is-vote, is-commit, Log, AllAllowed, tag, own, after, log, births, made, cluster, AtEnd, Keeps}
+use Rattle.safety.specs.Run.{is-vote, is-commit, Log, AllAllowed, tag, own, after, end, log, births, made, cluster, AtEnd, Keeps}
 use Rattle.safety.proofs.Rank.{needed-honest}
 use Rattle.safety.proofs.Safety.{some-honest}
-use Rattle.safety.proofs.Run.{run-lawful, in-tag, in-own, in-log, by-replica, row-linked, one-chain, one-length}
+use Rattle.safety.proofs.Run.{honest-high, run-lawful, in-tag, in-own, in-log, by-replica, row-linked, one-chain, one-length}
 use Rattle.safety.proofs.Match.{traced}
 use Rattle.protocol.specs.Work.{Work, n}
 use Rattle.protocol.specs.Refusals.{regionRules, refusals}
@@ -228,9 +228,17 @@ module _ (set : Settings) (honest : ℕ → Bool) (σ : ℕ → Replica) (run : 
         let d = c .truly (w .at) (w .below) (w .honest) (w .inside) in
         vote-named (d .0) (in-all (Sent (replicas set)) (d .0) (own replicaMachine (w .at) F) (all-sent (w .at) (w .honest)) (d .1)) v (d .2)
 
+    -- the invariant of an honest replica at the end of the run
+    at-end-of : (i : ℕ) → T (honest i) → Keeping set real-world i (made replicaMachine σ run i) (end replicaMachine σ run i)
+    unfolding keeps
+    at-end-of i h =
+        by-replica replicaMachine honest F B (keeps .Backed) (keeps .backed-step (honest-high replicaMachine set honest reads (λ b. b .name) (λ b. b .parent) σ run zeroName (P .earlier) (P .allowed) keeps))
+        run σ [] refl (λ b q. q) (P .earlier) (P .allowed) (keeps .backed-open) i h
+
     chain : OneChain set honest σ run
     chain = record {
       linked = λ i h. row-linked replicaMachine set honest reads (λ b. b .name) (λ b. b .parent) σ run zeroName (P .earlier) (P .allowed) keeps i (P .numbers i h) h;
+      heights = λ i h. at-end-of i h .chained .named;
       shorter = λ i j hi hj. one-chain replicaMachine set honest reads (λ b. b .name) (λ b. b .parent) σ run zeroName (P .earlier) (P .allowed) keeps (P .enough) one-parent i (P .numbers i hi) hi j (P .numbers j hj) hj;
       same = λ i j hi hj. one-length replicaMachine set honest reads (λ b. b .name) (λ b. b .parent) σ run zeroName (P .earlier) (P .allowed) keeps (P .enough) one-parent i (P .numbers i hi) hi j (P .numbers j hj) hj;
     }

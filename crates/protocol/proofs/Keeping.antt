@@ -41,7 +41,7 @@ use Rattle.protocol.proofs.Regular.{Regular}
 use Rattle.protocol.proofs.Typing.{zero-is-name}
 use Rattle.protocol.proofs.Opened.{Openable, openedWork, opening-accepts, opened-settings, opened-own, opened-count, opened-entry, opened-none, opened-regular}
 use Rattle.protocol.proofs.OneCall.{begin-regular, coreOf, call-is, opening-refused}
-use Rattle.protocol.proofs.World.{Name, World, R, size, Sent, Standing, VoteKept, CommitKept, TimeoutKept, Real}
+use Rattle.protocol.proofs.World.{Name, World, R, size, Sent, Standing, Named, VoteKept, CommitKept, TimeoutKept, Real}
 use Rattle.protocol.proofs.Holding.{HoldsIn}
 use Rattle.protocol.proofs.Formed.{pow-positive}
 use Rattle.protocol.proofs.Going.{ShownAs, Shown, Sound}
@@ -179,6 +179,10 @@ module _ (set : Settings) (w : World) (i : ℕ) (m : List ℕ) (st : List Block)
   unfolding certificateBytes
   entry₀-is = opened-entry m set i o long ∙ ap (λ (j : ℕ). blockCertificateBytes j 0 zeroName 0) (sym (opened-own m set i o long))
 
+  nothing-named : All (Named set w) []
+  unfolding All
+  nothing-named = tt
+
   nothing-sent : All (Sent (size set w)) []
   unfolding All
   nothing-sent = tt
@@ -209,6 +213,7 @@ module _ (set : Settings) (w : World) (i : ℕ) (m : List ℕ) (st : List Block)
       direct = inl refl;
       numbered = refl;
       tip-height = refl;
+      named = nothing-named;
       tip-le = omega arith;
       stored = λ b p. absurd p;
       single = λ a b p q e. absurd p;

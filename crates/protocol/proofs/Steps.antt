@@ -219,6 +219,7 @@ module _ (set : Settings) (w : World) (i : ℕ) where
     direct = rw e (C .direct);
     numbered = rw e (C .numbered);
     tip-height = rw e (C .tip-height);
+    named = rw e (C .named);
     tip-le = C .tip-le;
     stored = C .stored;
     single = C .single;

@@ -171,12 +171,17 @@ module _ (set : Settings) (w : World) where
     pub over-tip : tip .height .0 < b .height .0
     pub parent-held : ParentHeld tip store b
 
+  -- a release says the height that its name was born with
+  abbrev pub Named : Name × ℕ → Type 0
+  Named a = (b : Block) × w .Born b × (b .name ≡ a .0) × (b .height .0 ≡ a .1)
+
   -- the row of releases ends in the tip, which is the last direct release; the stored blocks stand above it, one of a name
   pub record Chained (l : List (List ℕ)) (tip : Block) (store : List Block) : Type 0 where
     pub row : Row (R .Parent) zeroName (firsts (rowIn l)) (tip .name)
     pub direct : (firsts (rowIn l) ≡ []) ⊎ ((v : ℕ) × Direct R v (tip .name))
     pub numbered : rowIn l ≡ number 1 (firsts (rowIn l))
     pub tip-height : tip .height .0 ≡ length (rowIn l)
+    pub named : All Named (rowIn l)
     pub tip-le : tip .height .0 ≤ lastHeight
     pub stored : (b : Block) → In b store → Stored tip store b
     pub single : (a b : Block) → In a store → In b store → a .name ≡ b .name → a ≡ b

@@ -211,9 +211,15 @@ module _ (set : Settings) (honest : ℕ → Bool) (σ : ℕ → Replica) where
     abbrev pub ParentIs : List ℕ → List ℕ → Type 0
     ParentIs x y = (b : Block) × In b born × (b .name ≡ x) × (b .parent ≡ y)
 
+    -- a release says the height of its name, by a birth of the run
+    abbrev pub HeightIs : List ℕ × ℕ → Type 0
+    HeightIs a = (b : Block) × In b born × (b .name ≡ a .0) × (b .height .0 ≡ a .1)
+
     pub record OneChain : Type 0 where
       -- "The first has genesis as parent, every other one the release before it, and heights run 1, 2, 3 and on."
       pub linked : (i : ℕ) → T (honest i) → Linked ParentIs 1 zeroName (rowOf i)
+      -- and each is the height that the name was given
+      pub heights : (i : ℕ) → T (honest i) → All HeightIs (rowOf i)
       -- "Of any two honest boxes' rows the shorter is the beginning of the longer; rows of one length are the same."
       pub shorter : (i j : ℕ) → T (honest i) → T (honest j) → length (rowOf i) ≤ length (rowOf j) → Begins (rowOf i) (rowOf j)
       pub same : (i j : ℕ) → T (honest i) → T (honest j) → length (rowOf i) ≡ length (rowOf j) → rowOf i ≡ rowOf j

@@ -102,7 +102,7 @@ module _ (M : Machine) (set : Settings) (honest : ℕ → Bool) {Name : Type 0} 
 
   module _ (genesis : Name) (E : Earlier M honest σ [] r) (A : AllAllowed M σ r) (K : Keeps M set honest reads child parent σ r genesis) where
     -- the two passes over the run
-    honest-high : HighVoted R
+    pub honest-high : HighVoted R
     honest-high = high-votes R (λ n l h. K .own-end n l h (end M σ r n)
         (by-replica M honest (log M σ [] r) (births M σ r) (K .Own) (K .own-step) r σ [] refl (λ b q. q) E A (K .own-open) n h))
 
