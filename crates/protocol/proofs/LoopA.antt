@@ -19,9 +19,6 @@ use Rattle.protocol.proofs.Turning.{by-cases, Led, each-led}
 
 -- the test of rule A at a view of the window is when it applies
 module _ (w : ℕ) (W : Work) where
-  passes-A : AppliesA w W → testA w W ≡ true
-  passes-A a = rw (le-leb (viewNow W) w (timeout-window (viewNow W) w (a .window) .from), lt-ltb (timed W) w (a .untimed), le-leb (suc (settings W .f)) (timeoutsKept w W) (a .enough))
-
   applies-A : w ≤ highest (viewNow W) → testA w W ≡ true → AppliesA w W
   applies-A h e =
       let p = and-true _ _ e in
@@ -32,6 +29,9 @@ module _ (w : ℕ) (W : Work) where
         untimed = ltb-true (timed W) w (q .0);
         enough = leb-true (suc (settings W .f)) (timeoutsKept w W) (q .1);
       }
+
+  passes-A : AppliesA w W → testA w W ≡ true
+  passes-A a = rw (le-leb (viewNow W) w (timeout-window (viewNow W) w (a .window) .from), lt-ltb (timed W) w (a .untimed), le-leb (suc (settings W .f)) (timeoutsKept w W) (a .enough))
 
 -- before A runs at view w, if it has run at the views below, from v on
 record BelowA (v w : ℕ) (W : Work) : Type 0 where
