@@ -41,3 +41,12 @@ pub mod Calling
 pub mod Keeping
 pub mod Demand3
 pub mod Whole
+pub mod ExampleRows
+pub mod ExampleQuiet
+pub mod ExampleCalls
+pub mod ExampleProposal
+pub mod ExampleCertificate
+pub mod ExampleVotes
+pub mod ExampleEntries
+pub mod Example
+pub mod Listing

@@ -8,3 +8,5 @@ pub mod Calls
 pub mod OneCall
 pub mod Whole
 pub mod OneChain
+pub mod Example
+pub mod Listing

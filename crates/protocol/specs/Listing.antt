@@ -1,0 +1,43 @@
+-- THE LISTING OF 01 (Known results): "Settings (1,1,0), n 6, own 1; timer 2; timer 1; timer 1; propose the name of 32 bytes 01 hex", as calls one after another,
+-- and the lines that it is to print. That the calls give these lines, over any regions that are long enough, is proofs/Listing.antt. Assumes nothing.
+use Prim.Native.Nat.{ℕ}
+use mathlib.Core.List.{List, [], _∷_}
+use Rattle.settings.specs.Answer.{Answer, accepts, refuses}
+use Rattle.protocol.specs.Calls.{Replica, Outcome, openingCall, timerCall, proposeCall}
+use Rattle.protocol.specs.OneCall.{left}
+use Rattle.protocol.specs.Example.{blockName}
+
+-- "Lines: call, answer, then view, timed and tip height after it": without the call's number
+pub record Line : Type 0 where
+  pub answer : ℕ
+  pub view : ℕ
+  pub timed : ℕ
+  pub height : ℕ
+
+abbrev pub line : ℕ → ℕ → ℕ → ℕ → Line
+line a v t h = record { answer = a; view = v; timed = t; height = h }
+
+-- "Answer 0 is acceptance"
+abbrev pub number : Answer ℕ → ℕ
+number (accepts k) = 0
+number (refuses a) = a
+
+abbrev pub lineOf : Outcome → Line
+lineOf o = line (number (o .reply)) (o .counters .view .0) (o .counters .timed .0) (o .counters .tip .height .0)
+
+-- the calls on a replica that was opened, each with an output region of its own
+abbrev pub linesOf : Replica → List ℕ → List ℕ → List ℕ → List ℕ → List Line
+linesOf r a b c d =
+    let first = timerCall r a 2 in
+    let second = timerCall (left first) b 1 in
+    let third = timerCall (left second) c 1 in
+    let fourth = proposeCall (left third) d blockName in
+    lineOf first ∷ lineOf second ∷ lineOf third ∷ lineOf fourth ∷ []
+
+abbrev pub printed : List Line
+printed =
+    line 8 1 0 0
+    ∷ line 0 1 1 0
+    ∷ line 10 1 1 0
+    ∷ line 15 1 1 0
+    ∷ []
