@@ -37,12 +37,14 @@ use Rattle.protocol.specs.Typed.{BlockTyped}
 use Rattle.protocol.specs.Refusals.{storeLength, notOther, belowView, aboveWindow, viewOfProgress, isHeld, misplaced}
 use Rattle.protocol.specs.Events.{mayVote, safeIn, progress, propositionOf}
 use Rattle.protocol.proofs.Regular.{Regular}
+use Rattle.protocol.proofs.Turning.{by-cases}
 use Rattle.protocol.proofs.World.{Name, World, R, size, traced, TimeoutKept, ParentHeld, VoteGround, Real}
+use Rattle.protocol.proofs.Chain.{as-found}
 use Rattle.protocol.proofs.Records.{joined-more, vote-framed}
 use Rattle.protocol.proofs.Steps.{size-is, few, vote-real, commit-real, timeout-real, adopt-view}
 use Rattle.protocol.proofs.Acts.{voted-real}
 use Rattle.protocol.proofs.Storing.{hold-real}
-use Rattle.protocol.proofs.Going.{framed-more, all-left, all-right, all-head, by-test, Shown, shown-as, Sound, Seen, grown, TakenAt, over-safe, adopted-real, progress-went}
+use Rattle.protocol.proofs.Going.{framed-more, all-left, all-right, all-head, Shown, shown-as, Sound, Seen, grown, TakenAt, over-safe, adopted-real, progress-went}
 
 -- ---- what the tests leave
 pub other-is : (W : Work) (j : ℕ) → notOther W j ≡ false → j < n W
@@ -64,9 +66,6 @@ parent-is W b e =
     let q = and-true _ _ (not-false _ (p .0)) in
     ((q .0, eqb-true (b .height .0) (suc (heldBlock W (b .parent) .block .height .0)) (q .1)), ltb-false lastHeight (b .height .0) (p .1))
 
-found-is : (f : Found) → f .is ≡ true → f ≡ found (f .block)
-found-is f e = ap (λ (t : Bool). let g : Found = record { is = t; block = f .block } in g) e
-
 module _ (set : Settings) (w : World) where
   pub held-parent : (tip : Block) (store : List Block) (b : Block) → held tip store (b .parent) .is ≡ true → b .height .0 ≡ suc (held tip store (b .parent) .block .height .0)
       → ParentHeld set w tip store b
@@ -76,7 +75,7 @@ module _ (set : Settings) (w : World) where
       go : (t : Bool) → sameBytes (tip .name) (b .parent) ≡ t → cond t (found tip) (find (b .parent) store) .is ≡ true
           → b .height .0 ≡ suc (cond t (found tip) (find (b .parent) store) .block .height .0) → ParentHeld set w tip store b
       go true e is high = inl (sym (same-eq (tip .name) (b .parent) e), high)
-      go false e is high = inr (find (b .parent) store .block, found-is (find (b .parent) store) is, high)
+      go false e is high = inr (find (b .parent) store .block, as-found (find (b .parent) store) is, high)
 
 module _ (set : Settings) (w : World) (H : HighVoted (R set w)) (i : ℕ) (l₀ : List (List ℕ)) where
   abbrev Snd : Work → Type 0
@@ -120,11 +119,11 @@ module _ (set : Settings) (w : World) (H : HighVoted (R set w)) (i : ℕ) (l₀ 
   -- ---- holding a block
   hold-out : (W : Work) (b : Block) → hold W b .out ≡ W .out
   unfolding hold
-  hold-out W b = by-test (λ (X : Work). X .out ≡ W .out) (heldBlock W (b .name) .is) _ _ (λ e. refl) (λ e. refl)
+  hold-out W b = by-cases (λ (X : Work). X .out ≡ W .out) (heldBlock W (b .name) .is) _ _ (λ e. refl) (λ e. refl)
 
   hold-counters : (W : Work) (b : Block) → hold W b .counters ≡ W .counters
   unfolding hold
-  hold-counters W b = by-test (λ (X : Work). X .counters ≡ W .counters) (heldBlock W (b .name) .is) _ _ (λ e. refl) (λ e. refl)
+  hold-counters W b = by-cases (λ (X : Work). X .counters ≡ W .counters) (heldBlock W (b .name) .is) _ _ (λ e. refl) (λ e. refl)
 
   hold-view : (W : Work) (b : Block) → viewNow (hold W b) ≡ viewNow W
   hold-view W b = ap (λ (c : Counters). c .view .0) (hold-counters W b)
@@ -180,10 +179,10 @@ module _ (set : Settings) (w : World) (H : HighVoted (R set w)) (i : ℕ) (l₀ 
 
     -- in the current view it is only adopted
     pub ready-now : v ≡ viewNow W → (Seen set w i l₀ S → TakenAt set w u r) → (Seen set w i l₀ S → u < viewNow W) → Ready W₁
-    ready-now q F below = by-test Ready (eqb v (viewNow W)) _ _ (λ e. adopted-here q F below) (λ e. absurd (eqb-false v (viewNow W) e q))
+    ready-now q F below = by-cases Ready (eqb v (viewNow W)) _ _ (λ e. adopted-here q F below) (λ e. absurd (eqb-false v (viewNow W) e q))
 
     pub ready-any : (Seen set w i l₀ S → TakenAt set w u r) → Framed r → CertificateFits (certificateOf r) → suc u ≡ v → viewNow W ≤ v → Ready W₁
-    ready-any F whole fit next le = by-test Ready (eqb v (viewNow W)) _ _
+    ready-any F whole fit next le = by-cases Ready (eqb v (viewNow W)) _ _
         (λ e. let q = eqb-true v (viewNow W) e in adopted-here q F (λ a. omega (arith, q, next)))
         (λ e. let q = eqb-false v (viewNow W) e in
         let G = progress-went set w i l₀ r W S F whole fit in
@@ -270,6 +269,6 @@ module _ (set : Settings) (w : World) (H : HighVoted (R set w)) (i : ℕ) (l₀ 
     pub proposition-sound : Snd (propositionOf v b r W)
     unfolding propositionOf
     proposition-sound =
-        by-test Snd (mayVote v W₂) (sendVote v (b .name) W₂) W₂
+        by-cases Snd (mayVote v W₂) (sendVote v (b .name) W₂) W₂
         (λ e. let p = and-true _ _ e in voted-sound (ltb-true (timed W₂) v (p .0)) (ltb-true (highView W₂) v (p .1)))
         (λ e. S₂)

@@ -42,11 +42,12 @@ use Rattle.safety.proofs.Certificates as Cands
 use Rattle.protocol.specs.Work.{commitRecord, voteRecord, Work, view, n, own, viewNow, timed, highView, tip, blocks, withCounters, send, keepVote, keepCommit, keepTimeout, sendVote, sendCommit, ownTimeout, sendTimeout}
 use Rattle.protocol.specs.Typed.{CountersTyped}
 use Rattle.protocol.specs.OneChain.{reads}
+use Rattle.protocol.proofs.Typing.{all-append}
 use Rattle.protocol.proofs.Regular.{counters-regular, send-regular}
 use Rattle.protocol.proofs.Actions.{own-high, own-carries, own-timeout-fits}
 use Rattle.protocol.proofs.World.{Name, World, R, size, Sent, traced, rowIn, VoteGround, Acted, Standing, Certified, VoteKept, CommitKept, TimeoutKept, Real}
 use Rattle.protocol.proofs.Records.{reads-encode}
-use Rattle.protocol.proofs.Steps.{row-same, all-more, all-one, size-is, few, chained-same, vote-real, commit-real, timeout-real}
+use Rattle.protocol.proofs.Steps.{row-same, all-one, size-is, few, chained-same, vote-real, commit-real, timeout-real}
 
 kind-proper : (b : Bool) → (_≡_ {A = ℕ} (cond b 3 4) 3) ⊎ (_≡_ {A = ℕ} (cond b 3 4) 4)
 kind-proper true = inl refl
@@ -89,7 +90,7 @@ module _ (set : Settings) (w : World) (i roof : ℕ) (W : Work) (l : List (List 
           regular = send-regular W r (X .regular);
           set-is = X .set-is;
           mine = X .mine;
-          sent = all-more (Sent (size set w)) l (r ∷ []) (X .sent) (all-one (Sent (size set w)) r (commit-sent (omega (arith, late))));
+          sent = all-append (Sent (size set w)) l (r ∷ []) (X .sent) (all-one (Sent (size set w)) r (commit-sent (omega (arith, late))));
           acted = record {
             acts = Trace.commit v x ∷ X .acted .acts;
             matches = an-act r (Trace.commit v x) (X .acted .matches) commit-reads;
@@ -135,7 +136,7 @@ module _ (set : Settings) (w : World) (i roof : ℕ) (W : Work) (l : List (List 
               (counters-regular W (voting (W .counters) h) typed (X .regular .view-first) (X .regular .view-last) (X .regular));
           set-is = X .set-is;
           mine = X .mine;
-          sent = all-more (Sent (size set w)) l (r ∷ []) (X .sent) (all-one (Sent (size set w)) r vote-sent);
+          sent = all-append (Sent (size set w)) l (r ∷ []) (X .sent) (all-one (Sent (size set w)) r vote-sent);
           acted = record {
             acts = Trace.vote v x c ∷ X .acted .acts;
             matches = an-act r (Trace.vote v x c) (X .acted .matches) vote-reads;
@@ -245,7 +246,7 @@ module _ (set : Settings) (w : World) (i roof : ℕ) (W : Work) (l : List (List 
               (counters-regular W (timing (W .counters) (view v)) typed (X .regular .view-first) (X .regular .view-last) (X .regular));
           set-is = X .set-is;
           mine = X .mine;
-          sent = all-more (Sent (size set w)) l (r ∷ []) (X .sent) (all-one (Sent (size set w)) r timeout-sent);
+          sent = all-append (Sent (size set w)) l (r ∷ []) (X .sent) (all-one (Sent (size set w)) r timeout-sent);
           acted = record {
             acts = Trace.timeout (Seen.content t) ∷ X .acted .acts;
             matches = an-act r (Trace.timeout (Seen.content t)) (X .acted .matches) timeout-reads;

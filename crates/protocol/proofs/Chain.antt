@@ -37,7 +37,7 @@ is-found f c e = ap (λ (g : Found). g .is) e
 abbrev pub Single : List Block → Type 0
 Single store = (a b : Block) → In a store → In b store → a .name ≡ b .name → a ≡ b
 
-as-found : (f : Found) → f .is ≡ true → f ≡ found (f .block)
+pub as-found : (f : Found) → f .is ≡ true → f ≡ found (f .block)
 as-found f e = ap (λ (t : Bool). let g : Found = record { is = t; block = f .block } in g) e
 
 -- an entry's name is found

@@ -39,9 +39,11 @@ use Rattle.protocol.specs.Refusals.{viewOfProgress}
 use Rattle.protocol.specs.Events.{mayCommit, safeIn, withSender, commitAfter, progress}
 use Rattle.protocol.specs.OneChain.{reads}
 use Rattle.protocol.proofs.Regular.{Regular}
+use Rattle.protocol.proofs.Typing.{all-append}
+use Rattle.protocol.proofs.Turning.{by-cases}
 use Rattle.protocol.proofs.World.{Name, World, R, size, Sent, traced, Standing, Entry, Real}
 use Rattle.protocol.proofs.Records.{reads-encode, with-sender, joined-more, vote-framed, sender-framed}
-use Rattle.protocol.proofs.Steps.{all-more, all-one, sent-real, raised, adopt-top, adopt-view, adopt-timed, adopt-tip, adopt-real, entered-real}
+use Rattle.protocol.proofs.Steps.{all-one, sent-real, raised, adopt-top, adopt-view, adopt-timed, adopt-tip, adopt-real, entered-real}
 use Rattle.protocol.proofs.Acts.{committed-real}
 
 pub all-left : {A : Type 0} (P : A → Type 0) (l m : List A) → All P (l ++ m) → All P l
@@ -59,12 +61,7 @@ unfolding All
 all-head P x l a = a .0
 
 pub framed-more : (l : List (List ℕ)) (r : List ℕ) → All Framed l → Framed r → All Framed (l ++ (r ∷ []))
-framed-more l r a f = all-more Framed l (r ∷ []) a (all-one Framed r f)
-
--- a test's two outcomes
-pub by-test : {A : Type 0} (P : A → Type 0) (b : Bool) (x y : A) → (b ≡ true → P x) → (b ≡ false → P y) → P (cond b x y)
-by-test P true x y f g = f refl
-by-test P false x y f g = g refl
+framed-more l r a f = all-append Framed l (r ∷ []) a (all-one Framed r f)
 
 -- ---- a record of replica i is in the run: what it says is so
 abbrev pub ShownAs : World → ℕ → Content → Type 0
@@ -328,7 +325,7 @@ module _ (set : Settings) (w : World) (i : ℕ) (l₀ : List (List ℕ)) where
         → Went (viewOfProgress k) (cert (safeCertificate set k)) W S (commitAfter k W₄)
     unfolding safeCertificate CertificateFits
     after-went (byBlock u x g) W₄ h G f good b =
-        by-test (λ (W′ : Work). Went u (blockOf u x) W S W′) (mayCommit u W₄) (sendCommit u x W₄) W₄
+        by-cases (λ (W′ : Work). Went u (blockOf u x) W S W′) (mayCommit u W₄) (sendCommit u x W₄) W₄
         (λ e. commit-went u x W S W₄ G h (λ a. f .1) good b (f .1 .size) (ltb-true (timed W₄) u e))
         (λ e. G)
     after-went (byTimeouts u ts) W₄ h G f good b = G
@@ -336,7 +333,7 @@ module _ (set : Settings) (w : World) (i : ℕ) (l₀ : List (List ℕ)) where
     pub progress-went : Went vᵣ (cert (safeCertificate set (certificateOf r))) W S (progress r W)
     unfolding progress
     progress-went =
-        by-test (λ (W′ : Work). Went vᵣ (cert (safeCertificate set (certificateOf r))) W S W′) (leb (viewNow W) vᵣ) (commitAfter (certificateOf r) Wₑ) (adopt W (safeIn W (certificateOf r)))
+        by-cases (λ (W′ : Work). Went vᵣ (cert (safeCertificate set (certificateOf r))) W S W′) (leb (viewNow W) vᵣ) (commitAfter (certificateOf r) Wₑ) (adopt W (safeIn W (certificateOf r)))
         (λ e. let h = leb-true (viewNow W) vᵣ e in
         after-went (certificateOf r) Wₑ h (enter-went r W S vᵣ F whole h) fit (λ a. F a .taken .good) (λ a. F a .below))
         (λ e. adopt-went r W S vᵣ F (leb-false (viewNow W) vᵣ e))

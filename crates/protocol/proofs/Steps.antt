@@ -60,6 +60,7 @@ use Rattle.protocol.specs.Work.{Work, view, settings, n, own, viewNow, t
 use Rattle.protocol.specs.Typed.{CertificateTyped, BlockTyped}
 use Rattle.protocol.specs.Refusals.{storeLength}
 use Rattle.protocol.specs.OneChain.{readOf, reads}
+use Rattle.protocol.proofs.Typing.{all-append}
 use Rattle.protocol.proofs.Regular.{Regular, Still, keep-regular, send-regular, adopt-regular, enter-regular}
 use Rattle.protocol.proofs.Holding.{tag, HoldsIn, keep-holds, other-holds, entry-holds, count-holds, entered-holds}
 use Rattle.protocol.proofs.World.{Name, World, R, size, Sent, traced, rowIn, VoteGround, Acted, Standing, Entry, Certified, VoteKept, CommitKept, TimeoutKept, Tables, ParentHeld, Chained, Real}
@@ -101,11 +102,6 @@ row-more l r a e = row-append l (r ∷ []) ∙ ap (λ (k : List (Name × ℕ)). 
 
 pub row-same : (l : List (List ℕ)) (r : List ℕ) (a : Read Name) → reads r ≡ a → rowOne a ≡ [] → rowIn (l ++ (r ∷ [])) ≡ rowIn l
 row-same l r a e z = row-more l r a e ∙ ap (λ (k : List (Name × ℕ)). rowIn l ++ k) z ∙ append-nil (rowIn l)
-
-pub all-more : {A : Type 0} (P : A → Type 0) (l m : List A) → All P l → All P m → All P (l ++ m)
-unfolding All
-all-more P [] m a b = b
-all-more P (x ∷ l) m a b = (a .0, all-more P l m (a .1) b)
 
 pub all-one : {A : Type 0} (P : A → Type 0) (x : A) → P x → All P (x ∷ [])
 unfolding All
@@ -232,7 +228,7 @@ module _ (set : Settings) (w : World) (i : ℕ) where
     regular = send-regular W r (X .regular);
     set-is = X .set-is;
     mine = X .mine;
-    sent = all-more (Sent (size set w)) l (r ∷ []) (X .sent) (all-one (Sent (size set w)) r s);
+    sent = all-append (Sent (size set w)) l (r ∷ []) (X .sent) (all-one (Sent (size set w)) r s);
     acted = record { acts = X .acted .acts; matches = no-act r (X .acted .matches) (rw e tt); trace = X .acted .trace; vote-on = X .acted .vote-on; commit-on = X .acted .commit-on };
     certified = X .certified;
     tables = X .tables;

@@ -34,12 +34,13 @@ use Rattle.protocol.specs.Work.{Work, n, own, viewNow, tip, blocks, held
 use Rattle.protocol.specs.Typed.{BlockTyped}
 use Rattle.protocol.specs.Refusals.{storeLength}
 use Rattle.protocol.specs.OneChain.{reads}
+use Rattle.protocol.proofs.Typing.{all-append}
 use Rattle.protocol.proofs.Regular.{Regular, Still, hold-regular}
 use Rattle.protocol.proofs.Actions.{release-regular}
 use Rattle.protocol.proofs.Holding.{count-holds}
 use Rattle.protocol.proofs.World.{Name, World, R, size, Sent, traced, rowIn, Acted, VoteKept, CommitKept, TimeoutKept, Tables, ParentHeld, Chained, Real}
 use Rattle.protocol.proofs.Records.{reads-encode}
-use Rattle.protocol.proofs.Steps.{row-cons, row-append, all-more, all-one, few}
+use Rattle.protocol.proofs.Steps.{row-cons, row-append, all-one, few}
 use Rattle.protocol.proofs.Chain.{held-chained, pairs, released-chained}
 
 -- an entry of a list has what all have
@@ -160,7 +161,7 @@ module _ (set : Settings) (w : World) (i roof : ℕ) (W : Work) (l : List (List 
 
       line-typed : All BlockTyped line
       line-typed = let a = ancestry-last (tip W) (blocks W) b d in
-          rw (a .1 .0) (all-more BlockTyped (a .0) (b ∷ []) (row-typed W (X .regular) (a .0) (a .1 .1)) (all-one BlockTyped b (held-typed W (X .regular) b p)))
+          rw (a .1 .0) (all-append BlockTyped (a .0) (b ∷ []) (row-typed W (X .regular) (a .0) (a .1 .1)) (all-one BlockTyped b (held-typed W (X .regular) b p)))
 
       release-quietly : Trace.QuietStep (traced (W .counters)) (traced (releasing (W .counters) b))
       unfolding releasing locksOf
@@ -185,7 +186,7 @@ module _ (set : Settings) (w : World) (i roof : ℕ) (W : Work) (l : List (List 
             regular = reg .0;
             set-is = reg .1 .settings ∙ X .set-is;
             mine = reg .1 .own ∙ X .mine;
-            sent = all-more (Sent (size set w)) l written (X .sent) (releases-sent line line-typed);
+            sent = all-append (Sent (size set w)) l written (X .sent) (releases-sent line line-typed);
             acted = record {
               acts = X .acted .acts;
               matches = releases-match line line-typed l (X .acted .acts) (X .acted .matches);

@@ -32,6 +32,7 @@ use Rattle.protocol.specs.Refusals.{viewOfProgress}
 use Rattle.protocol.specs.Events.{progress}
 use Rattle.protocol.specs.Rules.{settle}
 use Rattle.protocol.specs.Applies.{AppliesA, AppliesB, AppliesC, AppliesD, runA, runB, runC, runD, signersFor, Turn, byA, byB, byC, byD, Turns, rest, turn}
+use Rattle.protocol.proofs.Typing.{all-append}
 use Rattle.protocol.proofs.Regular.{Regular}
 use Rattle.protocol.proofs.Actions.{own-timeout-fits}
 use Rattle.protocol.proofs.Forms.{form-view, form-fits, formed-form, tally-u64}
@@ -42,7 +43,7 @@ use Rattle.protocol.proofs.Loop.{settle-is-the-loop}
 use Rattle.protocol.proofs.Settling.{voted-name, turn-regular}
 use Rattle.protocol.proofs.World.{Name, World, R, size, Real}
 use Rattle.protocol.proofs.Records.{joined-more, joined-append, encode-framed, release-framed, block-framed, timeouts-framed}
-use Rattle.protocol.proofs.Steps.{size-is, few, all-more, all-one}
+use Rattle.protocol.proofs.Steps.{size-is, few, all-one}
 use Rattle.protocol.proofs.Acts.{timed-real}
 use Rattle.protocol.proofs.Storing.{held-typed, row-typed, release-real}
 use Rattle.protocol.proofs.Going.{framed-more, all-left, all-right, all-head, Shown, shown-as, Sound, Seen, TakenAt, progress-went}
@@ -161,7 +162,7 @@ module _ (set : Settings) (w : World) (H : HighVoted (R set w)) (i : ℕ) (l₀ 
         let b = heldBlock W x .block in
         let r = ancestry-last (tip W) (blocks W) b (a .leadsDown) in
         releases-framed (own W) v (ancestry (tip W) (blocks W) b)
-        (rw (r .1 .0) (all-more BlockTyped (r .0) (b ∷ []) (row-typed W reg (r .0) (r .1 .1)) (all-one BlockTyped b (held-typed W reg b (applied-in v x W a)))))
+        (rw (r .1 .0) (all-append BlockTyped (r .0) (b ∷ []) (row-typed W reg (r .0) (r .1 .1)) (all-one BlockTyped b (held-typed W reg b (applied-in v x W a)))))
 
     release-view : (v : ℕ) (b : Block) → viewNow (release v b W) ≡ viewNow W
     unfolding release releasing
@@ -177,7 +178,7 @@ module _ (set : Settings) (w : World) (H : HighVoted (R set w)) (i : ℕ) (l₀ 
         let b = heldBlock W x .block in
         record {
           made = S .made ++ rows v x;
-          framed = all-more Framed (S .made) (rows v x) (S .framed) (rows-framed v x a);
+          framed = all-append Framed (S .made) (rows v x) (S .framed) (rows-framed v x a);
           out-is = release-out v x ∙ ap (λ (o : List ℕ). o ++ joined (rows v x)) (S .out-is) ∙ sym (joined-append (S .made) (rows v x));
           real = λ z.
               let y = all-left (Shown w i) (S .made) (rows v x) z in
