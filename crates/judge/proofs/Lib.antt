@@ -1,0 +1,5 @@
+pub mod Shapes
+pub mod Lates
+pub mod Passing
+pub mod Wants
+pub mod Whole

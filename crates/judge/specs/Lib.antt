@@ -1,0 +1,2 @@
+pub mod Want
+pub mod Late

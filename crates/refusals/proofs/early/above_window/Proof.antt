@@ -1,0 +1,21 @@
+use mathlib.Core.Logic.{⊎-elim}
+use Prim.Native.Nat.{_+_, _≤_}
+use borrow.Author.Tests.{lt-ltb, le-ltb}
+use borrow.Author.Needs.{needs}
+use native.Mathlib.Omega.{arith}
+use Rattle.refusals.proofs.early.above_window.Statement.{statement}
+use Rattle.refusals.proofs.early.above_window.Tie as tie
+use Rattle.refusals.proofs.early.above_window.Reads as reads
+use Rattle.refusals.proofs.early.above_window.Lts as lts
+
+sub-if2 : tie.Need-sub-if2
+sub-if2 c = search needs
+
+returns : tie.Need-returns
+returns c = rw (lt-ltb (c .before .before .args .view + 3) (c .before .before .args .v) (omega arith))
+
+returns-2 : tie.Need-returns-2
+returns-2 c = let h : c .before .args .v ≤ c .before .args .view + 3 = ⊎-elim (λ w. omega arith) (λ w. omega arith) (c .if1 .came) in rw (le-ltb (c .before .args .view + 3) (c .before .args .v) h)
+
+pub above-window-spec : {M : Type 1} → statement M
+above-window-spec = tie.close (tie.spec sub-if2 returns returns-2)

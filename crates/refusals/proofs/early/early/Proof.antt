@@ -1,0 +1,103 @@
+use mathlib.Core.Path.{_≡_, sym, _∙_}
+use mathlib.Core.Bool.{false}
+use Rattle.wire.specs.Fields.{kindOf}
+use Rattle.wire.specs.Shape.{certificateLength, certificateKindBad}
+use Rattle.wire.specs.Content.{content}
+use Rattle.wire.proofs.Frames.{whole-header, whole-vote, whole-commit, whole-timeout, whole-proposal, inner-length, whole-certificate, inner-kind, certificate-kind, certificate-block, certificate-other}
+use Rattle.refusals.specs.Early.{earlyRules}
+use native.Mathlib.Omega.{arith}
+use Rattle.refusals.proofs.early.early.Statement.{statement}
+use Rattle.refusals.proofs.early.early.Tie as tie
+use Rattle.refusals.proofs.early.early.Reads as reads
+use Rattle.refusals.proofs.early.early.Lts as lts
+use Rattle.codec.proofs.num.u16_at.Reads as u16-at-reads
+use Rattle.refusals.proofs.early.block_certificate_early.Reads as block-certificate-early-reads
+use Rattle.refusals.proofs.early.block_early.Reads as block-early-reads
+use Rattle.refusals.proofs.early.commit_early.Reads as commit-early-reads
+use Rattle.refusals.proofs.early.proposal_early.Reads as proposal-early-reads
+use Rattle.refusals.proofs.early.timeout_certificate_early.Reads as timeout-certificate-early-reads
+use Rattle.refusals.proofs.early.timeout_early.Reads as timeout-early-reads
+use Rattle.refusals.proofs.early.vote_early.Reads as vote-early-reads
+
+-- a record that is of none of the kinds 1, 2, 5, 7 and 8 is a certificate
+is-certificate : (c : tie.Else5) → (certificateLength (c .before .before .before .before .before .before .before .before .args .rec .now) ≡ false) × (certificateKindBad (c .before .before .before .before .before .before .before .before .args .rec .now) ≡ false)
+is-certificate c =
+    let e = c .before .before .before .before .before .u16-at .ensures in (
+      whole-certificate _ (c .before .before .before .before .before .before .before .before .pre .1 .1 .0) (λ k. c .before .before .before .before .if1 .left (e ∙ k)) (λ k. c .before .before .before .if2 .left (e ∙ k)) (λ k. c .before .before .if3 .left (e ∙ k)) (λ k. c .before .if4 .left (e ∙ k)) (λ k. c .if5 .left (e ∙ k)),
+      certificate-kind _ (c .before .before .before .before .before .before .before .before .pre .1 .1 .1) (λ k. c .before .before .before .before .if1 .left (e ∙ k)) (λ k. c .before .before .before .if2 .left (e ∙ k)) (λ k. c .before .before .if3 .left (e ∙ k)) (λ k. c .before .if4 .left (e ∙ k)) (λ k. c .if5 .left (e ∙ k)),
+    )
+
+six : (c : tie.Else6) → kindOf (c .before .before .before .before .before .before .before .before .before .args .rec .now) ≡ 6
+six c = certificate-other _ (is-certificate (c .before) .1) (λ k. c .if6 .left (c .before .before .before .before .before .before .u16-at .ensures ∙ k))
+
+u16-at-requires : tie.Need-u16-at-requires
+u16-at-requires c κs = omega (arith, whole-header _ (c .before .before .pre .1 .1 .0))
+
+vote-early-requires : tie.Need-vote-early-requires
+vote-early-requires c κs = (c .before .before .before .before .pre .0, (c .before .before .before .before .pre .1 .0, omega (arith, whole-vote _ (c .before .before .before .before .pre .1 .1 .0) (sym (c .before .u16-at .ensures) ∙ c .if1 .taken))))
+
+returns : tie.Need-returns
+unfolding content earlyRules
+returns c = rw (← c .before .before .u16-at .ensures, c .before .if1 .taken) (c .vote-early .ensures)
+
+commit-early-requires : tie.Need-commit-early-requires
+commit-early-requires c κs = (c .before .before .before .before .before .pre .0, (c .before .before .before .before .before .pre .1 .0, omega (arith, whole-commit _ (c .before .before .before .before .before .pre .1 .1 .0) (sym (c .before .before .u16-at .ensures) ∙ c .if2 .taken))))
+
+returns-2 : tie.Need-returns-2
+unfolding content earlyRules
+returns-2 c = rw (← c .before .before .before .u16-at .ensures, c .before .if2 .taken) (c .commit-early .ensures)
+
+timeout-early-requires : tie.Need-timeout-early-requires
+timeout-early-requires c κs = (c .before .before .before .before .before .before .pre .0, (c .before .before .before .before .before .before .pre .1 .0, omega (arith, whole-timeout _ (c .before .before .before .before .before .before .pre .1 .1 .0) (sym (c .before .before .before .u16-at .ensures) ∙ c .if3 .taken))))
+
+returns-3 : tie.Need-returns-3
+unfolding content earlyRules
+returns-3 c = rw (← c .before .before .before .before .u16-at .ensures, c .before .if3 .taken) (c .timeout-early .ensures)
+
+proposal-early-requires : tie.Need-proposal-early-requires
+proposal-early-requires c κs = let k = sym (c .before .before .before .before .u16-at .ensures) ∙ c .if4 .taken in (omega (arith, c .before .before .before .before .before .before .before .pre .0), (whole-proposal _ (c .before .before .before .before .before .before .before .pre .1 .1 .0) k, (inner-length _ (c .before .before .before .before .before .before .before .pre .1 .1 .0) k, inner-kind _ (c .before .before .before .before .before .before .before .pre .1 .1 .1) k)))
+
+returns-4 : tie.Need-returns-4
+unfolding content earlyRules
+returns-4 c = rw (← c .before .before .before .before .before .u16-at .ensures, c .before .if4 .taken) (c .proposal-early .ensures)
+
+block-early-requires : tie.Need-block-early-requires
+block-early-requires c κs = (omega (arith, c .before .before .before .before .before .before .before .before .pre .0), whole-header _ (c .before .before .before .before .before .before .before .before .pre .1 .1 .0))
+
+returns-5 : tie.Need-returns-5
+unfolding content earlyRules
+returns-5 c = rw (← c .before .before .before .before .before .before .u16-at .ensures, c .before .if5 .taken) (c .block-early .ensures)
+
+block-certificate-early-requires : tie.Need-block-certificate-early-requires
+block-certificate-early-requires c κs = let k = sym (c .before .before .before .before .before .before .u16-at .ensures) ∙ c .if6 .taken in (omega (arith, c .before .before .before .before .before .before .before .before .before .pre .0), (omega (arith, certificate-block _ (is-certificate (c .before) .0) k), k))
+
+returns-6 : tie.Need-returns-6
+unfolding content earlyRules
+returns-6 c = rw (← c .before .before .before .before .before .before .before .u16-at .ensures, c .before .if6 .taken) (c .block-certificate-early .ensures)
+
+timeout-certificate-early-requires : tie.Need-timeout-certificate-early-requires
+timeout-certificate-early-requires c κs = (omega (arith, c .before .before .before .before .before .before .before .before .before .pre .0), (whole-header _ (c .before .before .before .before .before .before .before .before .before .pre .1 .1 .0), (is-certificate (c .before) .0, (is-certificate (c .before) .1, λ k. c .if6 .left (c .before .before .before .before .before .before .u16-at .ensures ∙ k)))))
+
+returns-7 : tie.Need-returns-7
+unfolding content earlyRules
+returns-7 c = rw (six (c .before)) (c .timeout-certificate-early .ensures)
+
+pub early-spec : {M : Type 1} → statement M
+early-spec =
+    tie.close
+    (tie.spec
+    u16-at-requires
+    vote-early-requires
+    returns
+    commit-early-requires
+    returns-2
+    timeout-early-requires
+    returns-3
+    proposal-early-requires
+    returns-4
+    block-early-requires
+    returns-5
+    block-certificate-early-requires
+    returns-6
+    timeout-certificate-early-requires
+    returns-7)

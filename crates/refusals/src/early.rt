@@ -1,0 +1,334 @@
+// From 6 on: a record that has its shape, as far as the store isn't asked, and propose.
+use certificate::good::block_certificate;
+use certificate::good::progress_good;
+use certificate::good::timeout_good;
+use codec::name::is_zero;
+use codec::name::same;
+use codec::name::same_bytes;
+use codec::name_at;
+use codec::num::u16_at;
+use codec::num::u64_at;
+use counters::Counters;
+use counters::locks;
+use memory::kept::commit_row;
+use memory::kept::entry_at;
+use memory::kept::has;
+use memory::kept::timeout_row;
+use memory::kept::vote_row;
+use memory::own;
+use memory::settings;
+use memory::window::leader;
+use memory::window::lowest;
+use settings::Settings;
+use settings::View;
+use wire::Vote;
+use wire::read::vote;
+ghost use mathlib.Core.Path.{_≡_};
+ghost use mathlib.Core.Bool.{not, _&&_, _||_, false};
+ghost use mathlib.Core.List.{[], _∷_};
+ghost use Prim.Native.Nat.{suc, _+_, _≤_, _<_};
+ghost use lib.Dec.{leb, ltb, eqb};
+ghost use lib.ListN.{length};
+ghost use Rattle.settings.specs.Answer.{_⇒_};
+ghost use Rattle.settings.specs.Quorum.{largest, lastView, replicas};
+ghost use Rattle.wire.specs.Fields.{kindOf, senderOf, viewOf, nameOf, progressOf};
+ghost use Rattle.wire.specs.Shape.{certificateLength, certificateKindBad, badLength, badKind};
+ghost use Rattle.wire.specs.Content.{vote, commit, timeout, certificate, timeoutOf, certificateOf, content};
+ghost use Rattle.certificate.specs.Good.{progressGood};
+ghost use Rattle.memory.specs.Layout.{memoryLength, rowSize, settingsOf, ownOf};
+ghost use Rattle.memory.specs.Window.{leaderOf};
+ghost use Rattle.protocol.specs.Refusals.{refusals};
+ghost use Rattle.refusals.specs.Number.{firstOf};
+ghost use Rattle.refusals.specs.Early.{lent, ballotRules, keptRules, votedRules, proposalRules, earlyRules, earlyPropose};
+
+// 6: of no replica of the cluster, or of oneself.
+fn not_other(mem: &[u8], sender: u64) -> bool
+    requires { ⌜ 16 ≤ length (now mem) ⌝ }
+    ensures { λ r. ⌜ r ≡ (leb (replicas (settingsOf (now (mem .entry)))) sender || eqb sender (ownOf (now (mem .entry)))) ⌝ }
+{
+    if settings(mem).n() <= sender {
+        return true;
+    }
+    sender == own(mem) as u64
+}
+
+// 7: below the current view, or view 0.
+pub fn below_view(view: u64, v: u64) -> bool
+    ensures { λ r. ⌜ r ≡ (ltb v view || eqb v 0) ⌝ }
+{
+    if v < view {
+        return true;
+    }
+    v == 0
+}
+
+// 8: above the window, which ends below the last view.
+fn above_window(view: u64, v: u64) -> bool
+    ensures { λ r. ⌜ r ≡ (ltb (view + 3) v || leb lastView v) ⌝ }
+{
+    if view < v {
+        if 3 < v - view {
+            return true;
+        }
+    }
+    View::LAST <= v
+}
+
+// Kinds 1 and 2, kept in a row.
+fn ballot(c: Counters, mem: &[u8], row: usize, sender: u64, vote: Vote) -> u64
+    requires { ⌜ (memoryLength ≤ length (now mem)) × ((replicas (settingsOf (now mem)) ≤ largest) × (row + rowSize 32 ≤ memoryLength)) ⌝ }
+    ensures { λ r. ⌜ r ≡ firstOf (ballotRules (lent c (now (mem .entry)) []) row sender (vote .view .0) (vote .name)) ⌝ }
+{
+    let name = vote.name;
+    if not_other(mem, sender) {
+        return 6;
+    }
+    if vote.view.0 < lowest(c.view.0) {
+        return 7;
+    }
+    if above_window(c.view.0, vote.view.0) {
+        return 8;
+    }
+    if !has(mem, row, sender) {
+        return 0;
+    }
+    if same(name_at(mem, entry_at(row, 32, sender as usize)), name) {
+        return 10;
+    }
+    11
+}
+
+fn vote_early(c: Counters, mem: &[u8], rec: &[u8]) -> u64
+    requires { ⌜ (memoryLength ≤ length (now mem)) × ((replicas (settingsOf (now mem)) ≤ largest) × (48 ≤ length (now rec))) ⌝ }
+    ensures { λ r. ⌜ r ≡ firstOf (refusals (lent c (now (mem .entry)) []) (now (rec .entry)) (vote (senderOf (now (rec .entry))) (viewOf (now (rec .entry))) (nameOf (now (rec .entry))))) ⌝ }
+{
+    let v = vote(rec, 8);
+    let row = vote_row(v.view.0);
+    ballot(c, mem, row, u16_at(rec, 6) as u64, v)
+}
+
+fn commit_early(c: Counters, mem: &[u8], rec: &[u8]) -> u64
+    requires { ⌜ (memoryLength ≤ length (now mem)) × ((replicas (settingsOf (now mem)) ≤ largest) × (48 ≤ length (now rec))) ⌝ }
+    ensures { λ r. ⌜ r ≡ firstOf (refusals (lent c (now (mem .entry)) []) (now (rec .entry)) (commit (senderOf (now (rec .entry))) (viewOf (now (rec .entry))) (nameOf (now (rec .entry))))) ⌝ }
+{
+    let v = vote(rec, 8);
+    let row = commit_row(v.view.0);
+    ballot(c, mem, row, u16_at(rec, 6) as u64, v)
+}
+
+// Kind 3. It has no window: a certificate of any view below the last may be above the lock.
+fn block_certificate_early(c: Counters, mem: &[u8], rec: &[u8]) -> u64
+    requires { ⌜ (16 ≤ length (now mem)) × ((56 ≤ length (now rec)) × (kindOf (now rec) ≡ 3)) ⌝ }
+    ensures { λ r. ⌜ r ≡ firstOf (refusals (lent c (now (mem .entry)) []) (now (rec .entry)) (certificate (senderOf (now (rec .entry))) (certificateOf (now (rec .entry))))) ⌝ }
+{
+    let s = settings(mem);
+    if s.n() <= u16_at(rec, 6) as u64 {
+        return 6;
+    }
+    let k = block_certificate(rec);
+    if View::LAST <= k.view.0 {
+        return 8;
+    }
+    if !k.is_good(s) {
+        return 9;
+    }
+    let l = locks(c);
+    let lock = l.lock;
+    if k.outranks(lock) {
+        return 0;
+    }
+    10
+}
+
+// Kind 6.
+fn timeout_certificate_early(c: Counters, mem: &[u8], rec: &[u8]) -> u64
+    requires { ⌜ (16 ≤ length (now mem)) × ((8 ≤ length (now rec)) × ((certificateLength (now rec) ≡ false) × ((certificateKindBad (now rec) ≡ false) × (kindOf (now rec) ≡ 3 → ⊥)))) ⌝ }
+    ensures { λ r. ⌜ r ≡ firstOf (refusals (lent c (now (mem .entry)) []) (now (rec .entry)) (certificate (senderOf (now (rec .entry))) (certificateOf (now (rec .entry))))) ⌝ }
+{
+    let s = settings(mem);
+    if s.n() <= u16_at(rec, 6) as u64 {
+        return 6;
+    }
+    let v = u64_at(rec, 8);
+    if below_view(c.view.0, v) {
+        return 7;
+    }
+    if View::LAST <= v {
+        return 8;
+    }
+    if progress_good(rec, s) {
+        return 0;
+    }
+    9
+}
+
+// 10 and 11 of kind 5: the kept timeout of a sender, all its bytes compared.
+fn timeout_kept(mem: &[u8], row: usize, sender: u64, rec: &[u8]) -> u64
+    requires { ⌜ (memoryLength ≤ length (now mem)) × ((sender < largest) × (row + rowSize 112 ≤ memoryLength)) ⌝ }
+    ensures { λ r. ⌜ r ≡ firstOf (keptRules (now (mem .entry)) row sender (now (rec .entry))) ⌝ }
+{
+    if !has(mem, row, sender) {
+        return 0;
+    }
+    let at = entry_at(row, 112, sender as usize);
+    if same_bytes(&mem[at..at + 112], rec) {
+        return 10;
+    }
+    11
+}
+
+// Kind 5.
+fn timeout_early(c: Counters, mem: &[u8], rec: &[u8]) -> u64
+    requires { ⌜ (memoryLength ≤ length (now mem)) × ((replicas (settingsOf (now mem)) ≤ largest) × (112 ≤ length (now rec))) ⌝ }
+    ensures { λ r. ⌜ r ≡ firstOf (refusals (lent c (now (mem .entry)) []) (now (rec .entry)) (timeout (timeoutOf (now (rec .entry))))) ⌝ }
+{
+    let sender = u16_at(rec, 6) as u64;
+    let v = u64_at(rec, 8);
+    if not_other(mem, sender) {
+        return 6;
+    }
+    if below_view(c.view.0, v) {
+        return 7;
+    }
+    if above_window(c.view.0, v) {
+        return 8;
+    }
+    if !timeout_good(rec, settings(mem)) {
+        return 9;
+    }
+    timeout_kept(mem, timeout_row(v), sender, rec)
+}
+
+// 6 of kind 7: not by another replica, or not by the leader of its view.
+fn not_leader(mem: &[u8], sender: u64, v: u64) -> bool
+    requires { ⌜ 16 ≤ length (now mem) ⌝ }
+    ensures { λ r. ⌜ r ≡ ((leb (replicas (settingsOf (now (mem .entry)))) sender || eqb sender (ownOf (now (mem .entry)))) || (ltb 0 v && not (eqb sender (leaderOf (settingsOf (now (mem .entry))) v)))) ⌝ }
+{
+    if not_other(mem, sender) {
+        return true;
+    }
+    if v == 0 {
+        return false;
+    }
+    sender != leader(settings(mem), v)
+}
+
+// 9 of kind 7: its progress certificate isn't good, or isn't of the view before.
+fn progress_bad(inner: &[u8], settings: Settings, v: u64) -> bool
+    requires { ⌜ (8 ≤ length (now inner)) × ((certificateLength (now inner) ≡ false) × (certificateKindBad (now inner) ≡ false)) ⌝ }
+    ensures { λ r. ⌜ r ≡ not (progressGood settings (certificateOf (now (inner .entry))) && eqb (suc (viewOf (now (inner .entry)))) v) ⌝ }
+{
+    if !progress_good(inner, settings) {
+        return true;
+    }
+    if v == 0 {
+        return true;
+    }
+    u64_at(inner, 8) != v - 1
+}
+
+// 10 and 11 of kind 7, by the high vote.
+fn voted(c: Counters, v: u64, name: [u8; 32]) -> u64
+    ensures { λ r. ⌜ r ≡ firstOf (votedRules (lent c [] []) v name) ⌝ }
+{
+    let high = c.high;
+    let given = high.name;
+    if high.view.0 != v {
+        return 0;
+    }
+    if same(given, name) {
+        return 10;
+    }
+    11
+}
+
+// Kind 7, up to the high vote.
+fn proposal_early(c: Counters, mem: &[u8], rec: &[u8]) -> u64
+    requires { ⌜ (16 ≤ length (now mem)) × ((96 ≤ length (now rec)) × ((certificateLength (progressOf (now rec)) ≡ false) × (certificateKindBad (progressOf (now rec)) ≡ false))) ⌝ }
+    ensures { λ r. ⌜ r ≡ firstOf (proposalRules (lent c (now (mem .entry)) []) (senderOf (now (rec .entry))) (viewOf (now (rec .entry))) (nameOf (now (rec .entry))) (certificateOf (progressOf (now (rec .entry))))) ⌝ }
+{
+    let v = u64_at(rec, 8);
+    if not_leader(mem, u16_at(rec, 6) as u64, v) {
+        return 6;
+    }
+    if below_view(c.view.0, v) {
+        return 7;
+    }
+    if View::LAST <= v {
+        return 8;
+    }
+    if progress_bad(&rec[88..], settings(mem), v) {
+        return 9;
+    }
+    voted(c, v, name_at(rec, 16))
+}
+
+// Kind 8: all but 6 asks the store.
+fn block_early(mem: &[u8], rec: &[u8]) -> u64
+    requires { ⌜ (16 ≤ length (now mem)) × (8 ≤ length (now rec)) ⌝ }
+    ensures { λ r. ⌜ r ≡ firstOf (leb (replicas (settingsOf (now (mem .entry)))) (senderOf (now (rec .entry))) ⇒ 6 ∷ []) ⌝ }
+{
+    if settings(mem).n() <= u16_at(rec, 6) as u64 {
+        return 6;
+    }
+    0
+}
+
+// Every kind: a record that has its shape, in regions that pass 2.
+pub fn early(c: Counters, mem: &[u8], rec: &[u8]) -> u64
+    requires { ⌜ (memoryLength ≤ length (now mem)) × ((replicas (settingsOf (now mem)) ≤ largest) × ((badLength (now rec) ≡ false) × (badKind (now rec) ≡ false))) ⌝ }
+    ensures { λ r. ⌜ r ≡ firstOf (earlyRules (lent c (now (mem .entry)) []) (now (rec .entry)) (content (now (rec .entry)))) ⌝ }
+{
+    let kind = u16_at(rec, 4);
+    if kind == 1 {
+        return vote_early(c, mem, rec);
+    }
+    if kind == 2 {
+        return commit_early(c, mem, rec);
+    }
+    if kind == 5 {
+        return timeout_early(c, mem, rec);
+    }
+    if kind == 7 {
+        return proposal_early(c, mem, rec);
+    }
+    if kind == 8 {
+        return block_early(mem, rec);
+    }
+    if kind == 3 {
+        return block_certificate_early(c, mem, rec);
+    }
+    timeout_certificate_early(c, mem, rec)
+}
+
+// 15: propose out of turn.
+fn not_in_turn(c: Counters, mem: &[u8]) -> bool
+    requires { ⌜ (16 ≤ length (now mem)) × (0 < c .view .0) ⌝ }
+    ensures { λ r. ⌜ r ≡ (not (eqb (leaderOf (settingsOf (now (mem .entry))) (c .view .0)) (ownOf (now (mem .entry)))) || (leb (c .view .0) (c .timed .0) || (eqb (c .high .view .0) (c .view .0) || leb lastView (c .view .0)))) ⌝ }
+{
+    if leader(settings(mem), c.view.0) != own(mem) as u64 {
+        return true;
+    }
+    if c.view.0 <= c.timed.0 {
+        return true;
+    }
+    let high = c.high;
+    if high.view.0 == c.view.0 {
+        return true;
+    }
+    View::LAST <= c.view.0
+}
+
+// Propose: 15, then 5.
+pub fn propose_early(c: Counters, mem: &[u8], name: [u8; 32]) -> u64
+    requires { ⌜ (16 ≤ length (now mem)) × (0 < c .view .0) ⌝ }
+    ensures { λ r. ⌜ r ≡ firstOf (earlyPropose (lent c (now (mem .entry)) []) name) ⌝ }
+{
+    if not_in_turn(c, mem) {
+        return 15;
+    }
+    if is_zero(name) {
+        return 5;
+    }
+    0
+}

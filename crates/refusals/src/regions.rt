@@ -1,0 +1,110 @@
+// The place "regions": lengths, and the rules that memory and counters keep.
+use codec::num::u16_at;
+use counters::Counters;
+use memory::block_count;
+use memory::entry_length;
+use memory::own;
+use memory::settings;
+use settings::Settings;
+use settings::View;
+ghost use mathlib.Core.Path.{_≡_};
+ghost use mathlib.Core.Bool.{_&&_};
+ghost use mathlib.Core.List.{List, []};
+ghost use Prim.Native.Nat.{_+_, _*_, _≤_};
+ghost use lib.Dec.{leb, ltb};
+ghost use lib.ListN.{length};
+ghost use Rattle.settings.specs.Quorum.{largest, replicas};
+ghost use Rattle.settings.specs.Opening.{inBound};
+ghost use Rattle.blocks.specs.declared.Block.{Block};
+ghost use Rattle.memory.specs.Layout.{memoryLength, entryOf};
+ghost use Rattle.protocol.specs.Refusals.{regular, regionRules};
+ghost use Rattle.refusals.specs.Number.{firstOf};
+ghost use Rattle.refusals.specs.Early.{lent, certificateSized};
+
+// A progress certificate that has its length.
+fn certificate_sized(rec: &[u8], n: u64) -> bool
+    requires { ⌜ 24 ≤ length (now rec) ⌝ }
+    ensures { λ r. ⌜ r ≡ certificateSized n (now (rec .entry)) ⌝ }
+{
+    let kind = u16_at(rec, 4);
+    if kind == 3 {
+        return rec.len() == 56;
+    }
+    if kind != 6 {
+        return false;
+    }
+    let count = u16_at(rec, 16) as usize;
+    if n < count as u64 {
+        return false;
+    }
+    rec.len() == 24 + 112 * count
+}
+
+// The entry certificate has its length. No certificate has less than 24 bytes, or more than all replicas' timeouts.
+fn entry_regular(mem: &[u8], n: u64) -> bool
+    requires { ⌜ (memoryLength ≤ length (now mem)) × (n ≤ largest) ⌝ }
+    ensures { λ r. ⌜ r ≡ certificateSized n (entryOf (now (mem .entry))) ⌝ }
+{
+    let len = entry_length(mem);
+    if len < 24 {
+        return false;
+    }
+    if 3608 < len {
+        return false;
+    }
+    certificate_sized(&mem[16..16 + len], n)
+}
+
+// Settings that opening takes, and an own number of the cluster.
+fn settings_regular(s: Settings, own: u64) -> bool
+    ensures { λ r. ⌜ r ≡ (leb (replicas s) largest && (inBound s && ltb own (replicas s))) ⌝ }
+{
+    if Settings::LARGEST < s.n() {
+        return false;
+    }
+    // 4 for even c, 3 for odd c
+    let room = 4 - (s.c as u64) % 2;
+    if 2 * (s.f as u64) + (s.c as u64) < (s.k as u64) + room {
+        return false;
+    }
+    own < s.n()
+}
+
+fn regular(c: Counters, mem: &[u8]) -> bool
+    requires { ⌜ memoryLength ≤ length (now mem) ⌝ }
+    ensures { λ r. ⌜ r ≡ regular (lent c (now (mem .entry)) []) ⌝ }
+{
+    let s = settings(mem);
+    if !settings_regular(s, own(mem) as u64) {
+        return false;
+    }
+    if c.view.0 < 1 {
+        return false;
+    }
+    if View::LAST < c.view.0 {
+        return false;
+    }
+    if 128 < block_count(mem) {
+        return false;
+    }
+    entry_regular(mem, s.n())
+}
+
+// 2, or 0 where the regions pass.
+pub fn regions(c: Counters, mem: &[u8], entries: usize, room: usize) -> u64
+    ensures { λ r. ⌜ ((s : List Block) → length s ≡ entries → r ≡ firstOf (regionRules (lent c (now (mem .entry)) s) room)) ⌝ }
+{
+    if mem.len() < 34504 {
+        return 2;
+    }
+    if entries < 128 {
+        return 2;
+    }
+    if room < 32768 {
+        return 2;
+    }
+    if regular(c, mem) {
+        return 0;
+    }
+    2
+}
