@@ -41,7 +41,7 @@ fn incoming(rows: u64, old: u64, new: u64) -> u64
     rows
 }
 
-fn drop_ballots(mem: &mut [u8], from: u64, k: u64)
+pub fn drop_ballots(mem: &mut [u8], from: u64, k: u64)
     requires { ⌜ (memoryLength ≤ length (now mem)) × (from + k < 2 ^ 63) ⌝ }
     ensures { λ _. ⌜ now (mem .exit) ≡ withoutBallots (now (mem .entry)) from k ⌝ }
 {
@@ -53,7 +53,7 @@ fn drop_ballots(mem: &mut [u8], from: u64, k: u64)
     }
 }
 
-fn drop_timeouts(mem: &mut [u8], from: u64, k: u64)
+pub fn drop_timeouts(mem: &mut [u8], from: u64, k: u64)
     requires { ⌜ (memoryLength ≤ length (now mem)) × (from + k < 2 ^ 63) ⌝ }
     ensures { λ _. ⌜ now (mem .exit) ≡ withoutTimeouts (now (mem .entry)) from k ⌝ }
 {

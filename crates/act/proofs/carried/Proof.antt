@@ -1,0 +1,19 @@
+use mathlib.Core.Path.{_≡_, refl, sym, ap, subst, _∙_}
+use Rattle.act.specs.Draft.{carriedBy}
+use borrow.Author.Needs.{needs}
+use native.Mathlib.Omega.{arith}
+use Rattle.act.proofs.carried.Statement.{statement}
+use Rattle.act.proofs.carried.Tie as tie
+use Rattle.act.proofs.carried.Reads as reads
+use Rattle.act.proofs.carried.Lts as lts
+
+returns : tie.Need-returns
+unfolding carriedBy
+returns c = rw (c .if1 .taken)
+
+returns-2 : tie.Need-returns-2
+unfolding carriedBy
+returns-2 c = rw (c .if1 .left)
+
+pub carried-spec : {M : Type 1} → statement M
+carried-spec = tie.close (tie.spec returns returns-2)

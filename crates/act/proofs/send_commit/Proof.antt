@@ -1,0 +1,59 @@
+use mathlib.Core.Path.{_≡_, refl, sym, ap, subst, _∙_}
+use Rattle.act.proofs.Types.{name-typed}
+use Rattle.act.proofs.Steps.{ready-facts}
+use Rattle.act.proofs.Sends.{commit-does}
+use borrow.Author.Needs.{needs}
+use native.Mathlib.Omega.{arith}
+use Rattle.act.proofs.send_commit.Statement.{statement}
+use Rattle.act.proofs.send_commit.Tie as tie
+use Rattle.act.proofs.send_commit.Reads as reads
+use Rattle.act.proofs.send_commit.Lts as lts
+use Rattle.memory.proofs.kept.commit_row.Reads as commit-row-reads
+use Rattle.memory.proofs.kept.keep.Reads as keep-reads
+use Rattle.memory.proofs.own.Reads as own-reads
+use Rattle.wire.proofs.write.put_vote.Reads as put-vote-reads
+
+own-requires : tie.Need-own-requires
+own-requires c κs = search needs
+
+put-vote-requires : tie.Need-put-vote-requires
+put-vote-requires c κs = search needs
+
+commit-row-requires : tie.Need-commit-row-requires
+commit-row-requires c κs = search needs
+
+cast-keep : tie.Need-cast-keep
+cast-keep c = search needs
+
+slice-aggregate-keep : tie.Need-slice-aggregate-keep
+slice-aggregate-keep c = search needs
+
+keep-requires : tie.Need-keep-requires
+keep-requires c κs = let f = ready-facts _ _ _ (c .before .before .before .before .before .before .before .before .before .before .before .before .pre) in (omega (arith, c .before .commit-row .ensures), (search needs, (omega (arith, c .before .before .before .before .before .before .before .before .own .ensures, f .few, f .member), omega (arith, c .before .commit-row .ensures, c .before .before .before .before .before .before .before .before .before .before .before .before .pre .long))))
+
+add-t20 : tie.Need-add-t20
+add-t20 c = search needs
+
+same-length : tie.Need-same-length
+same-length c = search needs
+
+same-length-2 : tie.Need-same-length-2
+same-length-2 c = search needs
+
+returns : tie.Need-returns
+returns c = let a = c .before .before .before .before .before .before .before .before .before .before .before .before .before .before .before .args in commit-does (a .d) _ _ (a .view) (a .t5) (name-typed (a .t5) (c .before .before .before .before .before .before .before .before .before .before .before .before .before .before .before .good .1 .1 .1 .1 .0) .size) (c .before .before .before .before .before .before .before .before .before .before .before .before .before .before .before .pre .room) (c .before .before .before .before .before .before .before .before .before .before .before .own .ensures) (c .before .before .before .before .before .before .before .before .put-vote .ensures) (c .before .before .before .before .commit-row .ensures) (c .before .before .keep .ensures)
+
+pub send-commit-spec : {M : Type 1} → statement M
+send-commit-spec =
+    tie.close
+    (tie.spec
+    own-requires
+    put-vote-requires
+    commit-row-requires
+    cast-keep
+    slice-aggregate-keep
+    keep-requires
+    add-t20
+    same-length
+    same-length-2
+    returns)

@@ -1,0 +1,117 @@
+// What an accepted call does before the rules run.
+pub mod host;
+pub mod record;
+
+use act::Draft;
+use act::progress::adopt_safe;
+use act::progress::progress;
+use act::send_vote;
+use blocks::Block;
+use memory::block_count;
+use memory::put_block_count;
+use settings::Height;
+ghost use mathlib.Core.Path.{_≡_};
+ghost use Prim.Native.Nat.{_+_, _≤_};
+ghost use lib.ListN.{length};
+ghost use Rattle.settings.specs.Quorum.{replicas};
+ghost use Rattle.memory.specs.Layout.{memoryLength, entryRoom, settingsOf, blockCountOf};
+ghost use Rattle.protocol.specs.Refusals.{storeLength};
+ghost use Rattle.protocol.specs.Events.{propositionOf};
+ghost use Rattle.act.specs.Draft.{Ready};
+ghost use Rattle.act.specs.Progress.{IsProgress};
+ghost use Rattle.event.specs.Event.{Gives, nowhere, HeldIs, HasRoom, placeFor, countedIn, holdVote};
+
+const NOWHERE: usize = 0xffff_ffff_ffff_ffff;
+
+// The draft so far, and a block that the caller fills in at a place of the store; the place is past every store's end where none is new.
+pub struct Event {
+    pub draft: Draft,
+    pub place: usize,
+    pub block: Block,
+}
+
+// An event with no new block.
+fn no_block(d: Draft) -> Event
+    ensures { λ r. ⌜ (r .draft ≡ d) × (r .place ≡ nowhere) ⌝ }
+{
+    Event {
+        draft: d,
+        place: NOWHERE,
+        block: Block {
+            name: [0u8; 32],
+            parent: [0u8; 32],
+            height: Height(0),
+        },
+    }
+}
+
+// The place of a block of which is known whether it is held; a new one is counted.
+fn take_place(mem: &mut [u8], held: bool) -> usize
+    requires { ⌜ (memoryLength ≤ length (now mem)) × (blockCountOf (now mem) ≤ storeLength) ⌝ }
+    ensures { λ r. ⌜ (r ≡ placeFor (now (mem .entry)) held) × (now (mem .exit) ≡ countedIn (now (mem .entry)) held) ⌝ }
+{
+    if held {
+        return NOWHERE;
+    }
+    let k = block_count(mem);
+    put_block_count(mem, (k + 1) as u16);
+    k
+}
+
+// The block of a proposal is held, and voted for unless the view is timed or a vote of it or a higher view was sent.
+fn hold_and_vote(
+    mem: &mut [u8],
+    out: &mut [u8],
+    d: Draft,
+    view: u64,
+    block: Block,
+    held: bool,
+) -> Event
+    requires { ⌜ Ready d (now mem) (now out) 48 × HasRoom (now mem) held ⌝ }
+    ensures { λ r. ⌜ Gives (holdVote view block) (HeldIs (block .name) held) d (now (mem .entry)) (now (out .entry)) r (now (mem .exit)) (now (out .exit)) ⌝ }
+{
+    let c = d.counters;
+    let high = c.high;
+    let name = block.name;
+    let place = take_place(mem, held);
+    if c.timed.0 < view {
+        if high.view.0 < view {
+            return Event {
+                draft: send_vote(mem, out, d, view, name),
+                place,
+                block,
+            };
+        }
+    }
+    Event {
+        draft: d,
+        place,
+        block,
+    }
+}
+
+// A proposal of a view, with its progress certificate's record: in the current view that is only adopted.
+fn proposition(
+    mem: &mut [u8],
+    out: &mut [u8],
+    d: Draft,
+    view: u64,
+    block: Block,
+    rec: &[u8],
+    held: bool,
+) -> Event
+    requires { ⌜ Ready d (now mem) (now out) (entryRoom + 48) × (IsProgress (replicas (settingsOf (now mem))) (now rec) × HasRoom (now mem) held) ⌝ }
+    ensures { λ r. ⌜ Gives (propositionOf view block (now (rec .entry))) (HeldIs (block .name) held) d (now (mem .entry)) (now (out .entry)) r (now (mem .exit)) (now (out .exit)) ⌝ }
+{
+    let c = d.counters;
+    if view == c.view.0 {
+        let at = d.at;
+        let adopted = Draft {
+            counters: adopt_safe(mem, c, rec),
+            at,
+        };
+        return hold_and_vote(mem, out, adopted, view, block, held);
+    }
+    let next = progress(mem, out, d, rec);
+    hold_and_vote(mem, out, next, view, block, held)
+}

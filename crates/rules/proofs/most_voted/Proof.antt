@@ -1,0 +1,40 @@
+use Rattle.rules.proofs.Views.{voted-is}
+use mathlib.Core.Path.{_≡_, refl, sym, ap, subst, _∙_}
+use native.Mathlib.Numerals.{add-one}
+use Rattle.settings.specs.declared.Settings.{Settings}
+use Rattle.settings.specs.Quorum.{replicas}
+use borrow.Author.Needs.{needs}
+use native.Mathlib.Omega.{arith}
+use Rattle.rules.proofs.most_voted.Statement.{statement}
+use Rattle.rules.proofs.most_voted.Tie as tie
+use Rattle.rules.proofs.most_voted.Reads as reads
+use Rattle.rules.proofs.most_voted.Lts as lts
+
+settings-requires : tie.Need-settings-requires
+settings-requires c κs = omega (arith, c .before .pre .0)
+
+n-requires : tie.Need-n-requires
+n-requires c κs = tt
+
+block-quorum-requires : tie.Need-block-quorum-requires
+block-quorum-requires c κs = tt
+
+add-t9 : tie.Need-add-t9
+add-t9 c = omega (arith, c .before .before .before .before .pre .1, c .before .n .ensures ∙ ap (λ (z : Settings). replicas z) (c .before .before .settings .ensures))
+
+next-decided-requires : tie.Need-next-decided-requires
+next-decided-requires c κs = (c .before .before .before .before .pre .0, omega (arith, c .before .before .before .before .pre .1, c .before .n .ensures ∙ ap (λ (z : Settings). replicas z) (c .before .before .settings .ensures)))
+
+returns : tie.Need-returns
+returns c = voted-is _ _ (c .before .before .before .settings .ensures) (c .before .before .n .ensures) (c .before .block-quorum .ensures) (c .next-decided .ensures)
+
+pub most-voted-spec : {M : Type 1} → statement M
+most-voted-spec =
+    tie.close
+    (tie.spec
+    settings-requires
+    n-requires
+    block-quorum-requires
+    add-t9
+    next-decided-requires
+    returns)

@@ -1,0 +1,154 @@
+// The rules A, B and C after an event, each at one view, and their run in phases.
+pub mod phases;
+
+use act::Draft;
+use act::progress::act_on;
+use act::send_timeout;
+use certificate::Certificate;
+use counters::adopting;
+use counters::locks;
+use memory::decided::Choice;
+use memory::decided::Quest;
+use memory::decided::next_decided;
+use memory::formed::form;
+use memory::kept::count_backers;
+use memory::kept::kept_count;
+use memory::kept::timeout_row;
+use memory::kept::vote_row;
+use memory::own;
+use memory::settings;
+use settings::View;
+use wire::Vote;
+use wire::write::put_block_certificate;
+ghost use mathlib.Core.Path.{_≡_};
+ghost use Prim.Native.Nat.{_+_, _*_, _≤_, _<_};
+ghost use lib.ListN.{length};
+ghost use Rattle.settings.specs.Quorum.{largest, lastView, replicas};
+ghost use Rattle.memory.specs.Layout.{memoryLength, entryRoom, settingsOf, ownOf};
+ghost use Rattle.memory.specs.Decided.{noChoice, nextDecided};
+ghost use Rattle.memory.specs.Formed.{formed};
+ghost use Rattle.protocol.specs.Events.{progress};
+ghost use Rattle.protocol.specs.Rules.{ruleA, ruleB, ruleC};
+ghost use Rattle.act.specs.Draft.{Does, Ready};
+ghost use Rattle.rules.specs.Phases.{votesWanted, formsBlock, phaseA, phaseB, phaseC, phases};
+
+// Rule A at a view: f+1 timeouts are kept for it, and own timeout is sent.
+pub fn rule_a(mem: &mut [u8], out: &mut [u8], d: Draft, view: u64) -> Draft
+    requires { ⌜ Ready d (now mem) (now out) 112 ⌝ }
+    ensures { λ r. ⌜ Does (ruleA view) d (now (mem .entry)) (now (out .entry)) r (now (mem .exit)) (now (out .exit)) ⌝ }
+{
+    let c = d.counters;
+    if view < c.view.0 {
+        return d;
+    }
+    if view <= c.timed.0 {
+        return d;
+    }
+    let s = settings(mem);
+    if kept_count(mem, timeout_row(view), s.n()) <= s.f as u64 {
+        return d;
+    }
+    send_timeout(mem, out, d, view)
+}
+
+// The timeout certificate of what is kept for a view is formed, and does what an accepted one does.
+fn form_timeouts(mem: &mut [u8], out: &mut [u8], d: Draft, view: u64) -> Draft
+    requires { ⌜ Ready d (now mem) (now out) entryRoom × ((d .counters .view .0 ≤ view) × (view < lastView)) ⌝ }
+    ensures { λ r. ⌜ Does (progress (formed (now (mem .entry)) view (replicas (settingsOf (now (mem .entry)))) (ownOf (now (mem .entry))))) d (now (mem .entry)) (now (out .entry)) r (now (mem .exit)) (now (out .exit)) ⌝ }
+{
+    let at = d.at;
+    let n = settings(mem).n() as usize;
+    let to = form(mem, View(view), n, own(mem), out, at);
+    act_on(mem, out, d, to - at)
+}
+
+// Rule B at a view: enough timeouts are kept for it.
+pub fn rule_b(mem: &mut [u8], out: &mut [u8], d: Draft, view: u64) -> Draft
+    requires { ⌜ Ready d (now mem) (now out) entryRoom × (view < lastView) ⌝ }
+    ensures { λ r. ⌜ Does (ruleB view) d (now (mem .entry)) (now (out .entry)) r (now (mem .exit)) (now (out .exit)) ⌝ }
+{
+    let c = d.counters;
+    if view < c.view.0 {
+        return d;
+    }
+    let s = settings(mem);
+    if kept_count(mem, timeout_row(view), s.n()) < s.timeout_quorum() {
+        return d;
+    }
+    form_timeouts(mem, out, d, view)
+}
+
+// The least name of a view that a block quorum of kept votes backs, if there is one.
+fn most_voted(mem: &[u8], view: u64) -> Choice
+    requires { ⌜ (memoryLength ≤ length (now mem)) × (replicas (settingsOf (now mem)) ≤ largest) ⌝ }
+    ensures { λ r. ⌜ r ≡ nextDecided (now (mem .entry)) (votesWanted (now (mem .entry)) view) noChoice ⌝ }
+{
+    let s = settings(mem);
+    let n = s.n();
+    let wanted = Quest {
+        view,
+        n: n as usize,
+        votes: s.block_quorum(),
+        commits: n + 1,
+    };
+    let none = Choice {
+        some: false,
+        name: [0u8; 32],
+    };
+    next_decided(mem, wanted, none)
+}
+
+// The block certificate of a name is formed of the kept votes for it, and does what an accepted one does.
+fn form_block(mem: &mut [u8], out: &mut [u8], d: Draft, view: u64, name: [u8; 32]) -> Draft
+    requires { ⌜ Ready d (now mem) (now out) 104 × (view < lastView) ⌝ }
+    ensures { λ r. ⌜ Does (formsBlock view name) d (now (mem .entry)) (now (out .entry)) r (now (mem .exit)) (now (out .exit)) ⌝ }
+{
+    let c = d.counters;
+    let at = d.at;
+    let n = settings(mem).n() as usize;
+    let backed = count_backers(mem, vote_row(view), name, n);
+    let signers = backed.signers;
+    if view < c.view.0 {
+        let k = Certificate {
+            block: true,
+            view: View(view),
+            name,
+            signers,
+        };
+        return Draft {
+            counters: adopting(c, k),
+            at,
+        };
+    }
+    let vote = Vote {
+        view: View(view),
+        name,
+    };
+    put_block_certificate(out, at, own(mem), vote, signers);
+    act_on(mem, out, d, 56)
+}
+
+// Rule C at a view: enough votes are kept for a name, and its certificate outranks the lock.
+pub fn rule_c(mem: &mut [u8], out: &mut [u8], d: Draft, view: u64) -> Draft
+    requires { ⌜ Ready d (now mem) (now out) 104 × (view < lastView) ⌝ }
+    ensures { λ r. ⌜ Does (ruleC view) d (now (mem .entry)) (now (out .entry)) r (now (mem .exit)) (now (out .exit)) ⌝ }
+{
+    let found = most_voted(mem, view);
+    if !found.some {
+        return d;
+    }
+    let name = found.name;
+    let c = d.counters;
+    let l = locks(c);
+    let lock = l.lock;
+    let k = Certificate {
+        block: true,
+        view: View(view),
+        name,
+        signers: 0,
+    };
+    if !k.outranks(lock) {
+        return d;
+    }
+    form_block(mem, out, d, view, name)
+}
