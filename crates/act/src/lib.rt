@@ -1,4 +1,7 @@
-// What an accepted call does to memory and output.
+// The actions that accepted calls are made of: sending a vote, a commit or a timeout, and acting on a certificate. Over counters by value, lent
+// memory and output. Promises: each leaves counters, memory and written bytes as the action of `protocol` with its name does (`Does`), whatever the
+// store, and the output's bytes behind them as they were. It asks that memory passes refusal 2 and that what it writes has room. Rests on `memory`,
+// `counters`, `certificate` and `wire`.
 pub mod progress;
 
 use certificate::Certificate;

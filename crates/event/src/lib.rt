@@ -1,4 +1,7 @@
-// What an accepted call does before the rules run.
+// What an accepted call does before the rules run: an accepted record by its kind, the timer, propose, and the memory that an opening leaves.
+// The store isn't lent here: an event is told whether the block is held, and hands back a block and its place for the caller to fill in.
+// Promises: with that block filled in, what is left is what the event of `protocol` says (`Gives`), for every store of which the told fact is
+// true. It asks that memory passes refusal 2, that the record was accepted, and that there is room. Rests on `act`.
 pub mod host;
 pub mod record;
 
