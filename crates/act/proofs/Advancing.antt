@@ -5,17 +5,17 @@ use native.Mathlib.Omega.{arith}
 use mathlib.Core.Path.{_≡_, refl, sym, ap, _∙_}
 use mathlib.Core.Bool.{Bool, true, false, cond}
 use mathlib.Core.Logic.{inl, inr}
-use mathlib.Core.List.{List, _++_, map}
+use mathlib.Core.List.{List, _++_}
 use borrow.Author.Tests.{ne-eqb, lt-ltb, le-ltb, le-leb, lt-leb}
-use lib.Dec.{eqb, ltb, leb}
+use lib.Dec.{ltb, leb}
 use lib.ListN.{length, take, drop, length-append, take-append-drop}
 use lib.Seq.{length-take-le}
-use Rattle.settings.specs.Quorum.{largest, lastView, replicas}
+use Rattle.settings.specs.Quorum.{largest, replicas}
 use Rattle.codec.specs.Bytes.{IsBytes, part, patch, leNat, leBytes}
 use Rattle.codec.proofs.Laws.{length-part, length-patch, part-lent, part-same, part-before, part-behind, patch-part, patch-patch}
 use Rattle.codec.proofs.Le.{length-leBytes, leBytes-leNat, leNat-leBytes}
-use Rattle.wire.specs.Fields.{kindOf, senderOf, viewOf, nameOf, signersOf, countOf, slots, cut}
-use Rattle.wire.specs.Content.{Certificate, certificateOf, byBlock, byTimeouts, timeoutOf}
+use Rattle.wire.specs.Fields.{kindOf, senderOf, viewOf, nameOf, countOf}
+use Rattle.wire.specs.Content.{Certificate, certificateOf, byBlock, byTimeouts}
 use Rattle.wire.specs.Encode.{voteBytes}
 use Rattle.wire.proofs.Rows.{bytes-part}
 use Rattle.certificate.specs.Safe.{safeCertificate}

@@ -2,7 +2,7 @@
 use Prim.Native.Nat.{ℕ, _+_, _-_, _≤_}
 use native.Mathlib.Omega.{arith}
 use mathlib.Core.Path.{_≡_, refl, sym, ap, _∙_}
-use mathlib.Core.List.{List, _++_}
+use mathlib.Core.List.{List}
 use lib.ListN.{length, take, drop, length-append, length-take}
 use Rattle.codec.specs.Bytes.{part, patch}
 use Rattle.codec.proofs.Laws.{part-lent, part-same}
@@ -16,7 +16,7 @@ use Rattle.memory.specs.Layout.{ownOf, voteRow, commitRow, timeoutRow}
 use Rattle.memory.specs.Kept.{keep}
 use Rattle.counters.specs.declared.Counters.{Counters}
 use Rattle.counters.specs.Counters.{voting, timing}
-use Rattle.protocol.specs.Work.{Work, view, sendVote, sendCommit, sendTimeout, ownTimeout, keepVote, keepCommit, keepTimeout}
+use Rattle.protocol.specs.Work.{view, sendVote, sendCommit, sendTimeout, ownTimeout, keepVote, keepCommit, keepTimeout}
 use Rattle.protocol.proofs.Regular.{Regular}
 use Rattle.protocol.proofs.Actions.{own-timeout-fits}
 use Rattle.act.specs.declared.Draft.{Draft}

@@ -2,10 +2,9 @@
 use Prim.Native.Nat.{ℕ, zero, suc, _+_, _-_, _≤_, _<_}
 use native.Mathlib.Omega.{arith}
 use mathlib.Core.Path.{_≡_, refl, sym, ap, _∙_}
-use mathlib.Core.Bool.{true}
 use mathlib.Core.List.{List, [], _∷_, _++_, append-assoc}
 use lib.Dec.{lit<}
-use lib.ListN.{length, take, drop, set, replicate, length-append, length-take, length-drop, length-set, take-append-drop}
+use lib.ListN.{length, take, drop, set, replicate, length-append, length-drop, length-set, take-append-drop}
 use lib.Seq.{take-at, take-append-seam, drop-append-add, drop-drop, take-suc-set, drop-set-lt, length-take-le}
 use borrow.Author.Tests.{leb-true, ltb-true}
 use Rattle.settings.specs.Quorum.{largest, lastView, replicas}
@@ -16,9 +15,8 @@ use Rattle.codec.proofs.Laws.{length-part, patch-part, patch-append, patch-comm
 use Rattle.wire.specs.Fit.{All}
 use Rattle.blocks.specs.declared.Block.{Block}
 use Rattle.blocks.specs.Store.{genesis}
-use Rattle.counters.specs.declared.Counters.{Counters}
 use Rattle.protocol.specs.Work.{Work}
-use Rattle.protocol.specs.Typed.{BlockTyped, CountersTyped, Typed}
+use Rattle.protocol.specs.Typed.{BlockTyped, CountersTyped}
 use Rattle.settings.specs.Opening.{inBound}
 use Rattle.protocol.specs.Refusals.{storeLength, regular, entryRegular}
 use Rattle.protocol.proofs.Typing.{zero-is-name}

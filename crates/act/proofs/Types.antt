@@ -16,7 +16,7 @@ use Rattle.blocks.specs.declared.Block.{Block}
 use Rattle.blocks.proofs.Types.{Blockᴰ, Block-name, Block-parent, Block-height, Height-0}
 use Rattle.counters.specs.declared.Signed.{Signed}
 use Rattle.counters.specs.declared.Counters.{Counters}
-use Rattle.counters.proofs.Types.{Viewᴰ, View-0, Voteᴰ, Vote-view, Vote-name, Signedᴰ, Signed-view, Signed-name, Signed-signers, Countersᴰ, Counters-view, Counters-timed, Counters-high, Counters-lock, Counters-weak, Counters-tip}
+use Rattle.counters.proofs.Types.{View-0, Voteᴰ, Vote-view, Vote-name, Signedᴰ, Signed-view, Signed-name, Signed-signers, Countersᴰ, Counters-view, Counters-timed, Counters-high, Counters-lock, Counters-weak, Counters-tip}
 use Rattle.protocol.specs.Typed.{VoteTyped, SignedTyped, BlockTyped, CountersTyped}
 use Rattle.act.specs.declared.Draft.{Draft}
 use Rattle.act.proofs.Draft as Draftᵐ

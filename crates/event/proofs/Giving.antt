@@ -1,7 +1,7 @@
 -- The relation `Gives` between an event in code and in the definitions: after a step, before a step, and where no block is new. Assumes nothing.
 use Prim.Native.Nat.{ℕ, _+_, _≤_, _<_, _^_}
 use native.Mathlib.Omega.{arith}
-use mathlib.Core.Path.{_≡_, refl, sym, ap, _∙_}
+use mathlib.Core.Path.{_≡_, ap, _∙_}
 use mathlib.Core.List.{List}
 use lib.ListN.{length, set}
 use lib.Seq.{set-out}

@@ -3,35 +3,33 @@ use Prim.Native.Nat.{ℕ, _+_, _≤_, _<_, _^_}
 use native.Mathlib.Omega.{arith}
 use mathlib.Core.Path.{_≡_, refl, sym, ap, _∙_}
 use mathlib.Core.Bool.{Bool, true, false, cond, _&&_}
-use mathlib.Core.List.{List, []}
+use mathlib.Core.List.{List}
 use borrow.Author.Tests.{lt-ltb, le-ltb, eq-eqb, ne-eqb}
-use lib.Dec.{eqb, ltb}
+use lib.Dec.{ltb}
 use lib.ListN.{length, take, set, length-append}
 use lib.Seq.{length-take-le}
-use Rattle.codec.specs.Bytes.{IsBytes}
-use Rattle.settings.specs.Quorum.{largest, replicas}
+use Rattle.settings.specs.Quorum.{replicas}
 use Rattle.wire.specs.Content.{certificateOf}
 use Rattle.wire.specs.Encode.{voteBytes}
 use Rattle.certificate.specs.declared.Certificate.{Certificate}
 use Rattle.certificate.specs.Safe.{safeCertificate}
 use Rattle.blocks.specs.declared.Block.{Block}
 use Rattle.blocks.specs.Store.{held}
-use Rattle.memory.specs.Layout.{entryRoom, settingsOf, ownOf, blockCountOf, withBlockCount, entryOf}
+use Rattle.memory.specs.Layout.{entryRoom, settingsOf, blockCountOf, withBlockCount}
 use Rattle.memory.proofs.Header.{length-with-count, bytes-with-count, count-put, count-settings, count-own, count-entry}
 use Rattle.counters.specs.declared.Counters.{Counters}
 use Rattle.counters.specs.Counters.{adopting, withLocks}
-use Rattle.protocol.specs.Work.{Work, own, settings, n, viewNow, timed, highView, heldBlock, hold, adopt, sendVote, keepVote}
+use Rattle.protocol.specs.Work.{Work, own, settings, timed, highView, heldBlock, hold, sendVote, keepVote}
 use Rattle.protocol.specs.Refusals.{storeLength}
 use Rattle.protocol.specs.Events.{progress, propositionOf}
 use Rattle.protocol.proofs.Regular.{Regular, ProgressForm, regular-after}
 use Rattle.protocol.proofs.Rules.{adopts-regular, progress-regular}
-use Rattle.protocol.proofs.Written.{Grows, adopt-out, progress-out}
+use Rattle.protocol.proofs.Written.{adopt-out, progress-out}
 use Rattle.protocol.proofs.Proposals.{SameHeld, progress-held}
 use Rattle.act.specs.declared.Draft.{Draft}
 use Rattle.act.specs.Draft.{workOf, Left, left, leftBy, Does, Ready}
-use Rattle.act.specs.Progress.{IsProgress}
-use Rattle.act.proofs.Steps.{emptyStore, Longer, same-left, does-nothing, regular-ready, ready-next, ready-less}
-use Rattle.act.proofs.Advancing.{longer-if, adoptSafe, adopt-does, progress-form, progress-longer}
+use Rattle.act.proofs.Steps.{emptyStore, Longer, does-nothing, regular-ready, ready-next}
+use Rattle.act.proofs.Advancing.{longer-if, adoptSafe, adopt-does}
 use Rattle.event.specs.declared.Event.{Event}
 use Rattle.event.specs.Event.{Gives, nowhere, HeldIs, placeFor, countedIn, HasRoom, holdVote}
 use Rattle.event.proofs.Giving.{set-nowhere, gives-same, does-gives, gives-then}

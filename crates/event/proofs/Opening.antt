@@ -1,13 +1,12 @@
 -- The memory that an opening leaves, as the code writes it. Assumes nothing.
-use Prim.Native.Nat.{ℕ, _+_, _≤_}
-use native.Mathlib.Omega.{arith}
-use mathlib.Core.Path.{_≡_, refl, sym, ap, _∙_}
-use mathlib.Core.List.{List, _++_, append-assoc}
+use Prim.Native.Nat.{ℕ}
+use mathlib.Core.Path.{_≡_, _∙_}
+use mathlib.Core.List.{List, append-assoc}
 use lib.ListN.{length, replicate, length-append}
 use Rattle.settings.specs.declared.Settings.{Settings}
 use Rattle.codec.specs.Bytes.{patch, leBytes}
 use Rattle.codec.specs.Names.{zeroName}
-use Rattle.codec.proofs.Laws.{patch-whole, length-patch}
+use Rattle.codec.proofs.Laws.{patch-whole}
 use Rattle.codec.proofs.Le.{length-leBytes}
 use Rattle.wire.specs.Encode.{blockCertificateBytes}
 use Rattle.wire.proofs.Lengths.{length-header}

@@ -1,17 +1,16 @@
 -- A record that passed the places 3 to 14 has what `on_record` asks of it. Assumes nothing.
-use Prim.Native.Nat.{ℕ, suc, _≤_, _<_}
+use Prim.Native.Nat.{ℕ, suc, _<_}
 use native.Mathlib.Omega.{arith}
 use mathlib.Core.Path.{_≡_, refl, sym, ap, subst, _∙_}
-use mathlib.Core.Bool.{Bool, true, false, cond, not, _&&_, _||_, true≢false}
+use mathlib.Core.Bool.{Bool, true, false, cond, not, _||_}
 use mathlib.Core.List.{List}
 use borrow.Author.Tests.{leb-false, eqb-true, not-false, ne-eqb}
 use lib.Dec.{eqb}
 use lib.ListN.{length}
 use Rattle.settings.specs.Quorum.{lastView}
 use Rattle.codec.specs.Bytes.{IsBytes}
-use Rattle.codec.proofs.Le.{bytes-drop}
 use Rattle.codec.proofs.Order.{and-true}
-use Rattle.wire.specs.Fields.{kindOf, senderOf, viewOf, nameOf, parentOf, heightOf, progressOf, blockNameOf, blockParentOf, blockHeightOf, releaseHeightOf}
+use Rattle.wire.specs.Fields.{kindOf, senderOf, viewOf, nameOf, progressOf, blockNameOf, releaseHeightOf}
 use Rattle.wire.specs.Content.{Certificate, byBlock, byTimeouts, certificateOf, Content, vote, commit, certificate, timeout, proposal, block, release, content, timeoutOf}
 use Rattle.wire.specs.Encode.{encode}
 use Rattle.wire.specs.Fit.{Fits, Proper}
@@ -24,7 +23,6 @@ use Rattle.wire.proofs.Facts.{Quiet}
 use Rattle.certificate.specs.Good.{progressGood}
 use Rattle.protocol.specs.Work.{Work, settings, n}
 use Rattle.protocol.specs.Refusals.{notOther, viewOfProgress, noRoom, refusals}
-use Rattle.protocol.proofs.Regular.{Regular}
 use Rattle.protocol.proofs.Events.{stands-form}
 use Rattle.protocol.proofs.Proposals.{room-free}
 use Rattle.act.specs.Progress.{IsProgress}

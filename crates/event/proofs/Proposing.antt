@@ -1,10 +1,10 @@
 -- Propose, as the code does it; each premise is what one callee ensures, in the order of the calls. Assumes nothing.
-use Prim.Native.Nat.{ℕ, suc, _+_, _-_, _≤_, _<_}
+use Prim.Native.Nat.{ℕ, suc, _+_, _-_, _≤_}
 use native.Mathlib.Numerals.{add-one}
 use native.Mathlib.Omega.{arith}
 use mathlib.Core.Path.{_≡_, refl, sym, ap, _∙_}
 use mathlib.Core.Bool.{false}
-use mathlib.Core.List.{List, _++_}
+use mathlib.Core.List.{List}
 use borrow.Author.Tests.{eq-eqb}
 use lib.ListN.{length, take, drop, length-append, length-take, length-drop}
 use Rattle.settings.specs.declared.Settings.{Settings}
@@ -22,8 +22,8 @@ use Rattle.certificate.specs.Safe.{safeCertificate}
 use Rattle.blocks.specs.declared.Block.{Block}
 use Rattle.memory.specs.Layout.{memoryLength, entryRoom, settingsOf, ownOf, entryOf, entryLengthOf}
 use Rattle.counters.specs.declared.Counters.{Counters}
-use Rattle.counters.specs.Counters.{adopting, withLocks}
-use Rattle.protocol.specs.Work.{Work, settings, n, own, viewNow, heldBlock, send, adopt}
+use Rattle.counters.specs.Counters.{adopting}
+use Rattle.protocol.specs.Work.{Work, send, adopt}
 use Rattle.protocol.specs.Events.{propositionOf, onPropose}
 use Rattle.protocol.proofs.Regular.{Regular, form-room, send-regular}
 use Rattle.protocol.proofs.Forms.{form-fits, fits-typed}

@@ -1,14 +1,12 @@
 -- A record by its kind, as the code finds it; each premise is a test or what one callee ensures. Assumes nothing.
-use Prim.Native.Nat.{ℕ, _+_, _-_, _≤_, _<_}
+use Prim.Native.Nat.{ℕ, _-_, _≤_}
 use native.Mathlib.Omega.{arith}
 use mathlib.Core.Path.{_≡_, refl, sym, ap, _∙_}
-use mathlib.Core.Bool.{Bool, true, false}
+use mathlib.Core.Bool.{Bool}
 use mathlib.Core.Logic.{inl, inr}
 use mathlib.Core.List.{List}
-use borrow.Author.Tests.{ne-eqb}
-use lib.ListN.{length, take, drop, length-drop, take-append-drop}
+use lib.ListN.{length, take, drop, length-drop}
 use lib.Seq.{length-take-le}
-use Rattle.settings.specs.Quorum.{replicas}
 use Rattle.codec.specs.Bytes.{part, leNat}
 use Rattle.codec.specs.Names.{nameLength}
 use Rattle.codec.proofs.Laws.{part-rest}
@@ -16,14 +14,14 @@ use Rattle.wire.specs.declared.Child.{Child}
 use Rattle.wire.specs.Fields.{kindOf, senderOf, viewOf, nameOf, parentOf, heightOf, progressOf, blockNameOf, blockParentOf, blockHeightOf, timeoutLength}
 use Rattle.wire.specs.Content.{certificateOf, vote, commit, certificate, timeout, proposal, block, content, timeoutOf, proposedOf, blockOf}
 use Rattle.blocks.specs.declared.Block.{Block}
-use Rattle.memory.specs.Layout.{voteRow, commitRow, timeoutRow, settingsOf}
+use Rattle.memory.specs.Layout.{voteRow, commitRow, timeoutRow}
 use Rattle.memory.specs.Kept.{keep}
 use Rattle.protocol.specs.Work.{Work, withMemory, hold, keepVote, keepCommit, keepTimeout}
 use Rattle.protocol.specs.Events.{progress, propositionOf, onRecord}
 use Rattle.act.specs.declared.Draft.{Draft}
 use Rattle.act.specs.Draft.{workOf, Left, Does}
 use Rattle.act.specs.Progress.{HasForm, IsProgress}
-use Rattle.act.proofs.Steps.{same-left, does-same, does-nothing}
+use Rattle.act.proofs.Steps.{does-same, does-nothing}
 use Rattle.act.proofs.Advancing.{form-asks}
 use Rattle.event.specs.declared.Event.{Event}
 use Rattle.event.specs.Event.{Gives, nowhere, HeldIs, placeFor, countedIn, Asked, blockOfChild, proposedBlock, saidBlock}

@@ -1,6 +1,6 @@
 -- A rule that is run at view after view, and the three phases: what is done so far, and what is ready for the next view. Assumes nothing.
 use Prim.Native.Nat.{ℕ, zero, suc, _+_, _-_, _*_, _≤_, _<_}
-use native.Mathlib.Nat.{add-zero, add-suc, mul-suc}
+use native.Mathlib.Nat.{add-zero, mul-suc}
 use native.Mathlib.Omega.{arith}
 use mathlib.Core.Path.{_≡_, refl, sym, ap, _∙_}
 use mathlib.Core.Bool.{_&&_}
@@ -10,7 +10,6 @@ use lib.ListN.{length, length-append}
 use Rattle.settings.specs.Quorum.{lastView, timeoutQuorum}
 use Rattle.wire.specs.Encode.{timeoutBytes}
 use Rattle.certificate.specs.Rank.{blockCertificate, outranks}
-use Rattle.blocks.specs.declared.Block.{Block}
 use Rattle.memory.specs.Layout.{entryRoom, timeoutRow}
 use Rattle.memory.specs.Kept.{keptCount}
 use Rattle.memory.specs.Window.{lowest, highest}

@@ -1,10 +1,10 @@
 -- The rules A, B and C at one view, as the code finds them; each premise is a test or what one callee ensures, in the order of the code. Assumes nothing.
-use Prim.Native.Nat.{ℕ, suc, _+_, _-_, _≤_, _<_, _^_}
+use Prim.Native.Nat.{ℕ, suc, _+_, _-_, _≤_, _<_}
 use native.Mathlib.Nat.{add-zero}
 use native.Mathlib.Numerals.{add-one}
 use native.Mathlib.Omega.{arith}
 use mathlib.Core.Path.{_≡_, refl, sym, ap, _∙_}
-use mathlib.Core.Bool.{Bool, true, false, cond, _&&_}
+use mathlib.Core.Bool.{Bool, true, false}
 use mathlib.Core.List.{List, []}
 use borrow.Author.Tests.{lt-ltb, le-ltb, le-leb, lt-leb}
 use lib.Dec.{leb}
@@ -20,8 +20,7 @@ use Rattle.wire.specs.Fit.{IsName, IsU16, IsU64}
 use Rattle.certificate.specs.declared.Locks.{Locks}
 use Rattle.certificate.specs.Rank.{blockCertificate, outranks}
 use Rattle.certificate.specs.Safe.{safeCertificate}
-use Rattle.blocks.specs.declared.Block.{Block}
-use Rattle.memory.specs.Layout.{memoryLength, entryRoom, voteRow, timeoutRow, settingsOf, ownOf}
+use Rattle.memory.specs.Layout.{entryRoom, voteRow, timeoutRow, settingsOf, ownOf}
 use Rattle.memory.specs.declared.kept.Tally.{Tally}
 use Rattle.memory.specs.declared.decided.Choice.{Choice}
 use Rattle.memory.specs.Decided.{noChoice, nextDecided}
@@ -29,7 +28,7 @@ use Rattle.counters.specs.declared.Counters.{Counters}
 use Rattle.counters.specs.Counters.{locksOf, adopting}
 use Rattle.memory.specs.Kept.{keptCount, tally}
 use Rattle.memory.specs.Formed.{formed}
-use Rattle.protocol.specs.Work.{Work, sendTimeout}
+use Rattle.protocol.specs.Work.{sendTimeout}
 use Rattle.protocol.specs.Refusals.{viewOfProgress}
 use Rattle.protocol.specs.Events.{progress}
 use Rattle.protocol.specs.Rules.{ruleA, ruleB, ruleC}

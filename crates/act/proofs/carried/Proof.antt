@@ -1,11 +1,6 @@
-use mathlib.Core.Path.{_≡_, refl, sym, ap, subst, _∙_}
 use Rattle.act.specs.Draft.{carriedBy}
-use borrow.Author.Needs.{needs}
-use native.Mathlib.Omega.{arith}
 use Rattle.act.proofs.carried.Statement.{statement}
 use Rattle.act.proofs.carried.Tie as tie
-use Rattle.act.proofs.carried.Reads as reads
-use Rattle.act.proofs.carried.Lts as lts
 
 returns : tie.Need-returns
 unfolding carriedBy

@@ -1,11 +1,7 @@
-use mathlib.Core.Path.{_≡_, refl, sym, ap, subst, _∙_}
 use Rattle.act.specs.Draft.{timeoutBy}
 use borrow.Author.Needs.{needs}
-use native.Mathlib.Omega.{arith}
 use Rattle.act.proofs.own_timeout.Statement.{statement}
 use Rattle.act.proofs.own_timeout.Tie as tie
-use Rattle.act.proofs.own_timeout.Reads as reads
-use Rattle.act.proofs.own_timeout.Lts as lts
 use Rattle.act.proofs.carried.Reads as carried-reads
 use Rattle.certificate.proofs.Locks.highest.Reads as highest-reads
 use Rattle.counters.proofs.locks.Reads as locks-reads

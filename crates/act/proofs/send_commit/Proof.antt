@@ -1,4 +1,3 @@
-use mathlib.Core.Path.{_≡_, refl, sym, ap, subst, _∙_}
 use Rattle.act.proofs.Types.{name-typed}
 use Rattle.act.proofs.Steps.{ready-facts}
 use Rattle.act.proofs.Sends.{commit-does}
@@ -6,8 +5,6 @@ use borrow.Author.Needs.{needs}
 use native.Mathlib.Omega.{arith}
 use Rattle.act.proofs.send_commit.Statement.{statement}
 use Rattle.act.proofs.send_commit.Tie as tie
-use Rattle.act.proofs.send_commit.Reads as reads
-use Rattle.act.proofs.send_commit.Lts as lts
 use Rattle.memory.proofs.kept.commit_row.Reads as commit-row-reads
 use Rattle.memory.proofs.kept.keep.Reads as keep-reads
 use Rattle.memory.proofs.own.Reads as own-reads

@@ -1,4 +1,4 @@
-use mathlib.Core.Path.{_≡_, refl, sym, ap, subst, _∙_}
+use mathlib.Core.Path.{refl}
 use Rattle.act.proofs.Types.{draft-typed}
 use Rattle.act.proofs.Steps.{ready-facts, ready-regular}
 use Rattle.act.proofs.Sends.{lent-most, timeout-does}
@@ -6,8 +6,6 @@ use borrow.Author.Needs.{needs}
 use native.Mathlib.Omega.{arith}
 use Rattle.act.proofs.send_timeout.Statement.{statement}
 use Rattle.act.proofs.send_timeout.Tie as tie
-use Rattle.act.proofs.send_timeout.Reads as reads
-use Rattle.act.proofs.send_timeout.Lts as lts
 use Rattle.act.proofs.own_timeout.Reads as own-timeout-reads
 use Rattle.counters.proofs.timing.Reads as timing-reads
 use Rattle.memory.proofs.kept.keep.Reads as keep-reads

@@ -1,13 +1,10 @@
 use Rattle.act.proofs.Types.{name-typed}
-use mathlib.Core.Path.{_≡_, refl, sym, ap, subst, _∙_}
 use Rattle.act.proofs.Steps.{ready-facts}
 use Rattle.act.proofs.Sends.{vote-does}
 use borrow.Author.Needs.{needs}
 use native.Mathlib.Omega.{arith}
 use Rattle.act.proofs.send_vote.Statement.{statement}
 use Rattle.act.proofs.send_vote.Tie as tie
-use Rattle.act.proofs.send_vote.Reads as reads
-use Rattle.act.proofs.send_vote.Lts as lts
 use Rattle.counters.proofs.voting.Reads as voting-reads
 use Rattle.memory.proofs.kept.keep.Reads as keep-reads
 use Rattle.memory.proofs.kept.vote_row.Reads as vote-row-reads

@@ -1,4 +1,3 @@
-use mathlib.Core.Path.{_≡_, refl, sym, ap, subst, _∙_}
 use Rattle.act.proofs.Steps.{ready-facts, ready-regular}
 use Rattle.act.proofs.Types.{draft-typed}
 use Rattle.event.proofs.Holding.{hold-ready, held-timed, held-voted, held-and-voted}
@@ -6,8 +5,6 @@ use borrow.Author.Needs.{needs}
 use native.Mathlib.Omega.{arith}
 use Rattle.event.proofs.hold_and_vote.Statement.{statement}
 use Rattle.event.proofs.hold_and_vote.Tie as tie
-use Rattle.event.proofs.hold_and_vote.Reads as reads
-use Rattle.event.proofs.hold_and_vote.Lts as lts
 
 take-place-requires : tie.Need-take-place-requires
 take-place-requires c κs = (c .before .before .before .before .before .before .pre .0 .long, ready-facts _ _ _ (c .before .before .before .before .before .before .pre .0) .blocks)

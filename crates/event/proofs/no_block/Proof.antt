@@ -1,9 +1,6 @@
 use borrow.Author.Needs.{needs}
-use native.Mathlib.Omega.{arith}
 use Rattle.event.proofs.no_block.Statement.{statement}
 use Rattle.event.proofs.no_block.Tie as tie
-use Rattle.event.proofs.no_block.Reads as reads
-use Rattle.event.proofs.no_block.Lts as lts
 
 returns : tie.Need-returns
 returns c = search needs

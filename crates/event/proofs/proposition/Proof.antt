@@ -1,4 +1,3 @@
-use mathlib.Core.Path.{_≡_, refl, sym, ap, subst, _∙_}
 use Rattle.act.proofs.Steps.{ready-facts, ready-regular, ready-less}
 use Rattle.act.proofs.Types.{draft-typed}
 use Rattle.act.proofs.Advancing.{progress-form, progress-room}
@@ -7,8 +6,6 @@ use borrow.Author.Needs.{needs}
 use native.Mathlib.Omega.{arith}
 use Rattle.event.proofs.proposition.Statement.{statement}
 use Rattle.event.proofs.proposition.Tie as tie
-use Rattle.event.proofs.proposition.Reads as reads
-use Rattle.event.proofs.proposition.Lts as lts
 
 adopt-safe-requires : tie.Need-adopt-safe-requires
 adopt-safe-requires c κs = (c .before .before .before .before .before .before .before .pre .0 .long, (ready-facts _ _ _ (c .before .before .before .before .before .before .before .pre .0) .few, c .before .before .before .before .before .before .before .pre .1 .0 .form))

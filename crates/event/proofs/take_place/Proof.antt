@@ -1,11 +1,9 @@
-use mathlib.Core.Path.{_≡_, refl, sym, ap, subst, _∙_}
+use mathlib.Core.Path.{_∙_}
 use Rattle.event.specs.Event.{placeFor, countedIn}
 use borrow.Author.Needs.{needs}
 use native.Mathlib.Omega.{arith}
 use Rattle.event.proofs.take_place.Statement.{statement}
 use Rattle.event.proofs.take_place.Tie as tie
-use Rattle.event.proofs.take_place.Reads as reads
-use Rattle.event.proofs.take_place.Lts as lts
 
 returns : tie.Need-returns
 unfolding placeFor countedIn

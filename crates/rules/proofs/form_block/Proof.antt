@@ -1,4 +1,4 @@
-use mathlib.Core.Path.{_≡_, refl, sym, ap, subst, _∙_}
+use mathlib.Core.Path.{ap, _∙_}
 use Rattle.settings.specs.declared.Settings.{Settings}
 use Rattle.settings.specs.Quorum.{replicas}
 use Rattle.act.proofs.Steps.{ready-facts}
@@ -8,8 +8,6 @@ use borrow.Author.Needs.{needs}
 use native.Mathlib.Omega.{arith}
 use Rattle.rules.proofs.form_block.Statement.{statement}
 use Rattle.rules.proofs.form_block.Tie as tie
-use Rattle.rules.proofs.form_block.Reads as reads
-use Rattle.rules.proofs.form_block.Lts as lts
 
 settings-requires : tie.Need-settings-requires
 settings-requires c κs = omega (arith, c .before .before .before .before .pre .0 .long)

@@ -1,14 +1,10 @@
 use Rattle.rules.proofs.Views.{voted-is}
-use mathlib.Core.Path.{_≡_, refl, sym, ap, subst, _∙_}
-use native.Mathlib.Numerals.{add-one}
+use mathlib.Core.Path.{ap, _∙_}
 use Rattle.settings.specs.declared.Settings.{Settings}
 use Rattle.settings.specs.Quorum.{replicas}
-use borrow.Author.Needs.{needs}
 use native.Mathlib.Omega.{arith}
 use Rattle.rules.proofs.most_voted.Statement.{statement}
 use Rattle.rules.proofs.most_voted.Tie as tie
-use Rattle.rules.proofs.most_voted.Reads as reads
-use Rattle.rules.proofs.most_voted.Lts as lts
 
 settings-requires : tie.Need-settings-requires
 settings-requires c κs = omega (arith, c .before .pre .0)

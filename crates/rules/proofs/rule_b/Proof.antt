@@ -1,4 +1,4 @@
-use mathlib.Core.Path.{_≡_, refl, sym, ap, subst, _∙_}
+use mathlib.Core.Path.{ap, _∙_}
 use Rattle.act.proofs.Steps.{ready-facts}
 use Rattle.settings.specs.declared.Settings.{Settings}
 use Rattle.settings.specs.Quorum.{replicas}
@@ -7,8 +7,6 @@ use borrow.Author.Needs.{needs}
 use native.Mathlib.Omega.{arith}
 use Rattle.rules.proofs.rule_b.Statement.{statement}
 use Rattle.rules.proofs.rule_b.Tie as tie
-use Rattle.rules.proofs.rule_b.Reads as reads
-use Rattle.rules.proofs.rule_b.Lts as lts
 
 returns : tie.Need-returns
 returns c = B-below (c .before .before .before .before .before .args .d) _ _ _ (omega (arith, c .before .before .before .before .before .pre .0 .room)) (c .if1 .taken)

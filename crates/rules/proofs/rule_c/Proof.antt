@@ -1,13 +1,10 @@
 use borrow.Author.Tests.{not-true, not-false}
-use mathlib.Core.Path.{_≡_, refl, sym, ap, subst, _∙_}
 use Rattle.act.proofs.Steps.{ready-facts}
 use Rattle.rules.proofs.Views.{C-none, C-lower, C-forms}
 use borrow.Author.Needs.{needs}
 use native.Mathlib.Omega.{arith}
 use Rattle.rules.proofs.rule_c.Statement.{statement}
 use Rattle.rules.proofs.rule_c.Tie as tie
-use Rattle.rules.proofs.rule_c.Reads as reads
-use Rattle.rules.proofs.rule_c.Lts as lts
 
 most-voted-requires : tie.Need-most-voted-requires
 most-voted-requires c κs = (c .before .before .before .pre .0 .long, ready-facts _ _ _ (c .before .before .before .pre .0) .few)

@@ -1,4 +1,3 @@
-use mathlib.Core.Path.{_≡_, refl, sym, ap, subst, _∙_}
 use Rattle.act.proofs.Types.{draft-typed}
 use Rattle.act.proofs.Steps.{ready-regular}
 use Rattle.act.proofs.Advancing.{rec-long, block-size, kind-block, commit-ready, on-timeouts, on-block-timed, on-block}
@@ -6,8 +5,6 @@ use borrow.Author.Needs.{needs}
 use native.Mathlib.Omega.{arith}
 use Rattle.act.proofs.progress.act_on.Statement.{statement}
 use Rattle.act.proofs.progress.act_on.Tie as tie
-use Rattle.act.proofs.progress.act_on.Reads as reads
-use Rattle.act.proofs.progress.act_on.Lts as lts
 
 add-u16-at : tie.Need-add-u16-at
 add-u16-at c = let i = c .before .before .before .pre in omega (arith, i .whole, rec-long _ _ _ _ i, c .before .before .before .good .1 .0 .0)

@@ -1,12 +1,10 @@
-use mathlib.Core.Path.{_≡_, refl, sym, ap, subst, _∙_}
+use mathlib.Core.Path.{ap}
 use Rattle.act.proofs.Advancing.{form-asks}
 use Rattle.settings.specs.Quorum.{replicas}
 use borrow.Author.Needs.{needs}
 use native.Mathlib.Omega.{arith}
 use Rattle.act.proofs.progress.adopt_safe.Statement.{statement}
 use Rattle.act.proofs.progress.adopt_safe.Tie as tie
-use Rattle.act.proofs.progress.adopt_safe.Reads as reads
-use Rattle.act.proofs.progress.adopt_safe.Lts as lts
 
 settings-requires : tie.Need-settings-requires
 settings-requires c κs = omega (arith, c .before .before .pre .0)

@@ -1,4 +1,4 @@
-use mathlib.Core.Path.{_≡_, refl, sym, ap, subst, _∙_}
+use mathlib.Core.Path.{ap, _∙_}
 use Rattle.settings.specs.declared.View.{View}
 use Rattle.protocol.proofs.Regular.{adopting-view}
 use Rattle.memory.proofs.Entering.{length-entered}
@@ -9,8 +9,6 @@ use borrow.Author.Needs.{needs}
 use native.Mathlib.Omega.{arith}
 use Rattle.act.proofs.progress.advance.Statement.{statement}
 use Rattle.act.proofs.progress.advance.Tie as tie
-use Rattle.act.proofs.progress.advance.Reads as reads
-use Rattle.act.proofs.progress.advance.Lts as lts
 
 add-adopt-safe : tie.Need-add-adopt-safe
 add-adopt-safe c = search needs

@@ -1,4 +1,4 @@
-use mathlib.Core.Path.{_≡_, refl, sym, ap, subst, _∙_}
+use mathlib.Core.Path.{ap, _∙_}
 use lib.ListN.{length}
 use Rattle.codec.proofs.Laws.{length-patch}
 use Rattle.act.proofs.Steps.{ready-facts}
@@ -7,8 +7,6 @@ use borrow.Author.Needs.{needs}
 use native.Mathlib.Omega.{arith}
 use Rattle.act.proofs.progress.progress.Statement.{statement}
 use Rattle.act.proofs.progress.progress.Tie as tie
-use Rattle.act.proofs.progress.progress.Reads as reads
-use Rattle.act.proofs.progress.progress.Lts as lts
 
 u64-at-requires : tie.Need-u64-at-requires
 u64-at-requires c κs = omega (arith, form-asks _ (c .before .before .before .before .args .rec .now) (c .before .before .before .before .pre .1 .form) .0)

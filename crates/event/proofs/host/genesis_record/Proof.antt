@@ -1,11 +1,7 @@
-use mathlib.Core.Path.{_≡_, refl, sym, ap, subst, _∙_}
 use Rattle.event.proofs.Opening.{genesis-put}
 use borrow.Author.Needs.{needs}
-use native.Mathlib.Omega.{arith}
 use Rattle.event.proofs.host.genesis_record.Statement.{statement}
 use Rattle.event.proofs.host.genesis_record.Tie as tie
-use Rattle.event.proofs.host.genesis_record.Reads as reads
-use Rattle.event.proofs.host.genesis_record.Lts as lts
 
 slice-aggregate-put-block-certificate : tie.Need-slice-aggregate-put-block-certificate
 slice-aggregate-put-block-certificate c = search needs

@@ -1,4 +1,4 @@
-use mathlib.Core.Path.{_≡_, refl, sym, ap, subst, _∙_}
+use mathlib.Core.Path.{ap, _∙_}
 use lib.ListN.{length}
 use Rattle.codec.specs.Bytes.{patch}
 use Rattle.event.proofs.Proposing.{entry-in, entry-size, entry-lent, offer-is}
@@ -6,8 +6,6 @@ use borrow.Author.Needs.{needs}
 use native.Mathlib.Omega.{arith}
 use Rattle.event.proofs.host.offer.Statement.{statement}
 use Rattle.event.proofs.host.offer.Tie as tie
-use Rattle.event.proofs.host.offer.Reads as reads
-use Rattle.event.proofs.host.offer.Lts as lts
 
 entry-length-requires : tie.Need-entry-length-requires
 entry-length-requires c κs = omega (arith, c .before .before .before .before .pre .0)

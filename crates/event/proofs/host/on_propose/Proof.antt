@@ -1,4 +1,3 @@
-use mathlib.Core.Path.{_≡_, refl, sym, ap, subst, _∙_}
 use Rattle.protocol.proofs.Regular.{form-room}
 use Rattle.act.proofs.Steps.{ready-regular}
 use Rattle.act.proofs.Types.{draft-typed, name-typed}
@@ -7,8 +6,6 @@ use borrow.Author.Needs.{needs}
 use native.Mathlib.Omega.{arith}
 use Rattle.event.proofs.host.on_propose.Statement.{statement}
 use Rattle.event.proofs.host.on_propose.Tie as tie
-use Rattle.event.proofs.host.on_propose.Reads as reads
-use Rattle.event.proofs.host.on_propose.Lts as lts
 
 safe-of-entry-requires : tie.Need-safe-of-entry-requires
 safe-of-entry-requires c κs = let R = ready-regular (c .before .before .before .before .args .d) _ _ (c .before .before .before .before .pre .0) (draft-typed (c .before .before .before .before .args .d) (c .before .before .before .before .good .1 .1 .0)) (λ j. c .before .before .before .slice-known .given j .fits) in (c .before .before .before .before .pre .0 .long, (R .few, R .entry))

@@ -1,13 +1,9 @@
-use mathlib.Core.Path.{_≡_, refl, sym, ap, subst, _∙_}
 use Rattle.protocol.specs.Events.{onTimer}
 use Rattle.event.specs.Event.{Always}
 use Rattle.event.proofs.Giving.{gives-none}
 use borrow.Author.Needs.{needs}
-use native.Mathlib.Omega.{arith}
 use Rattle.event.proofs.host.on_timer.Statement.{statement}
 use Rattle.event.proofs.host.on_timer.Tie as tie
-use Rattle.event.proofs.host.on_timer.Reads as reads
-use Rattle.event.proofs.host.on_timer.Lts as lts
 
 send-timeout-requires : tie.Need-send-timeout-requires
 send-timeout-requires c κs = c .before .before .before .before .pre

@@ -1,12 +1,10 @@
-use mathlib.Core.Path.{_≡_, refl, sym, ap, subst, _∙_}
+use mathlib.Core.Path.{ap, _∙_}
 use Rattle.event.proofs.Opening.{opened-put, length-genesis}
 use lib.ListN.{length}
 use borrow.Author.Needs.{needs}
 use native.Mathlib.Omega.{arith}
 use Rattle.event.proofs.host.open_memory.Statement.{statement}
 use Rattle.event.proofs.host.open_memory.Tie as tie
-use Rattle.event.proofs.host.open_memory.Reads as reads
-use Rattle.event.proofs.host.open_memory.Lts as lts
 
 genesis-record-requires : tie.Need-genesis-record-requires
 genesis-record-requires c κs = tt

@@ -1,12 +1,7 @@
-use mathlib.Core.Path.{_≡_, refl, sym, ap, subst, _∙_}
-use lib.ListN.{length}
 use Rattle.event.proofs.Opening.{head-put}
-use borrow.Author.Needs.{needs}
 use native.Mathlib.Omega.{arith}
 use Rattle.event.proofs.host.put_head.Statement.{statement}
 use Rattle.event.proofs.host.put_head.Tie as tie
-use Rattle.event.proofs.host.put_head.Reads as reads
-use Rattle.event.proofs.host.put_head.Lts as lts
 
 put-u16-requires : tie.Need-put-u16-requires
 put-u16-requires c κs = omega (arith, c .before .before .pre)

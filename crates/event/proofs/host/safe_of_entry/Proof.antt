@@ -1,16 +1,12 @@
-use mathlib.Core.Path.{_≡_, refl, sym, ap, subst, _∙_}
+use mathlib.Core.Path.{ap}
 use Rattle.settings.specs.declared.Settings.{Settings}
 use Rattle.settings.specs.Quorum.{replicas}
 use Rattle.protocol.proofs.Regular.{form-room}
-use Rattle.act.specs.Progress.{HasForm}
 use Rattle.act.proofs.Advancing.{form-asks}
 use Rattle.event.proofs.Proposing.{entry-in, entry-lent, safe-is}
-use borrow.Author.Needs.{needs}
 use native.Mathlib.Omega.{arith}
 use Rattle.event.proofs.host.safe_of_entry.Statement.{statement}
 use Rattle.event.proofs.host.safe_of_entry.Tie as tie
-use Rattle.event.proofs.host.safe_of_entry.Reads as reads
-use Rattle.event.proofs.host.safe_of_entry.Lts as lts
 
 entry-length-requires : tie.Need-entry-length-requires
 entry-length-requires c κs = omega (arith, c .before .pre .0)

@@ -1,10 +1,8 @@
-use mathlib.Core.Path.{_≡_, refl, sym, ap, subst, _∙_}
+use mathlib.Core.Path.{_∙_}
 use borrow.Author.Needs.{needs}
 use native.Mathlib.Omega.{arith}
 use Rattle.event.proofs.record.keep_timeout.Statement.{statement}
 use Rattle.event.proofs.record.keep_timeout.Tie as tie
-use Rattle.event.proofs.record.keep_timeout.Reads as reads
-use Rattle.event.proofs.record.keep_timeout.Lts as lts
 
 u64-at-requires : tie.Need-u64-at-requires
 u64-at-requires c κs = omega (arith, c .before .before .before .pre .1 .0)

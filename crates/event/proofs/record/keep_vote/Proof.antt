@@ -1,13 +1,11 @@
-use mathlib.Core.Path.{_≡_, refl, sym, ap, subst, _∙_}
-use lib.ListN.{length, take, drop, length-take}
+use mathlib.Core.Path.{_∙_}
+use lib.ListN.{drop, length-take}
 use Prim.Native.Nat.{_-_}
 use Rattle.event.proofs.Records.{kept-name}
 use borrow.Author.Needs.{needs}
 use native.Mathlib.Omega.{arith}
 use Rattle.event.proofs.record.keep_vote.Statement.{statement}
 use Rattle.event.proofs.record.keep_vote.Tie as tie
-use Rattle.event.proofs.record.keep_vote.Reads as reads
-use Rattle.event.proofs.record.keep_vote.Lts as lts
 
 u64-at-requires : tie.Need-u64-at-requires
 u64-at-requires c κs = omega (arith, c .before .before .before .pre .1 .0)

@@ -1,11 +1,8 @@
-use mathlib.Core.Path.{_≡_, refl, sym, ap, subst, _∙_}
+use mathlib.Core.Path.{refl}
 use Rattle.event.proofs.Records.{block-read}
 use borrow.Author.Needs.{needs}
-use native.Mathlib.Omega.{arith}
 use Rattle.event.proofs.record.on_block.Statement.{statement}
 use Rattle.event.proofs.record.on_block.Tie as tie
-use Rattle.event.proofs.record.on_block.Reads as reads
-use Rattle.event.proofs.record.on_block.Lts as lts
 
 block-requires : tie.Need-block-requires
 block-requires c κs = c .before .before .pre .1 .1

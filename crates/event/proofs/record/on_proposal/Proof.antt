@@ -1,11 +1,8 @@
-use mathlib.Core.Path.{_≡_, refl, sym, ap, subst, _∙_}
 use Rattle.event.proofs.Records.{inner-long, inner-is, proposal-read}
 use borrow.Author.Needs.{needs}
 use native.Mathlib.Omega.{arith}
 use Rattle.event.proofs.record.on_proposal.Statement.{statement}
 use Rattle.event.proofs.record.on_proposal.Tie as tie
-use Rattle.event.proofs.record.on_proposal.Reads as reads
-use Rattle.event.proofs.record.on_proposal.Lts as lts
 
 u64-at-requires : tie.Need-u64-at-requires
 u64-at-requires c κs = omega (arith, inner-long _ (c .before .before .before .args .rec .now) (c .before .before .before .pre .1 .0))

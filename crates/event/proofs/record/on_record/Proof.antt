@@ -1,4 +1,4 @@
-use mathlib.Core.Path.{_≡_, refl, sym, ap, subst, _∙_}
+use mathlib.Core.Path.{sym, _∙_}
 use Rattle.act.proofs.Steps.{ready-facts, ready-less}
 use Rattle.act.proofs.Advancing.{progress-room}
 use Rattle.event.proofs.Records.{vote-gives, commit-gives, timeout-gives, proposal-gives, block-gives, certificate-gives}
@@ -6,8 +6,6 @@ use borrow.Author.Needs.{needs}
 use native.Mathlib.Omega.{arith}
 use Rattle.event.proofs.record.on_record.Statement.{statement}
 use Rattle.event.proofs.record.on_record.Tie as tie
-use Rattle.event.proofs.record.on_record.Reads as reads
-use Rattle.event.proofs.record.on_record.Lts as lts
 
 u16-at-requires : tie.Need-u16-at-requires
 u16-at-requires c κs = omega (arith, c .before .before .before .pre .1 .0)

@@ -1,13 +1,9 @@
-use mathlib.Core.Path.{_≡_, refl, sym, ap, subst, _∙_}
 use Rattle.act.proofs.Steps.{ready-regular, ready-less}
 use Rattle.act.proofs.Types.{draft-typed}
 use Rattle.rules.proofs.Running.{ready-B, ready-C, phases-do}
-use borrow.Author.Needs.{needs}
 use native.Mathlib.Omega.{arith}
 use Rattle.rules.proofs.phases.run.Statement.{statement}
 use Rattle.rules.proofs.phases.run.Tie as tie
-use Rattle.rules.proofs.phases.run.Reads as reads
-use Rattle.rules.proofs.phases.run.Lts as lts
 
 run-a-requires : tie.Need-run-a-requires
 run-a-requires c κs = ready-less _ _ _ _ _ (omega arith) (c .before .before .before .before .pre)

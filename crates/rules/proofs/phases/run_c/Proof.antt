@@ -1,7 +1,6 @@
 use lib.ListN.{length}
 use Prim.Native.Nat.{suc, _-_, _≤_}
-use mathlib.Core.Path.{_≡_, refl, sym, ap, subst, _∙_}
-use Rattle.memory.specs.Layout.{entryRoom}
+use mathlib.Core.Path.{_≡_, refl}
 use Rattle.protocol.specs.Rules.{ruleC, each}
 use Rattle.protocol.proofs.Rules.{C-regular}
 use Rattle.protocol.proofs.Written.{C-out}
@@ -9,12 +8,9 @@ use Rattle.act.specs.Draft.{Does}
 use Rattle.act.proofs.Steps.{ready-facts, ready-regular}
 use Rattle.act.proofs.Types.{draft-typed}
 use Rattle.rules.proofs.Running.{C-longer, run-start, run-turn, run-ready, C-ends}
-use borrow.Author.Needs.{needs}
 use native.Mathlib.Omega.{arith}
 use Rattle.rules.proofs.phases.run_c.Statement.{statement}
 use Rattle.rules.proofs.phases.run_c.Tie as tie
-use Rattle.rules.proofs.phases.run_c.Reads as reads
-use Rattle.rules.proofs.phases.run_c.Lts as lts
 
 abbrev Inv-loop : tie.InvT-loop
 Inv-loop mem₀ out₀ view₀ last next₀ mem out view next = (view₀ ≤ view) × ((view - view₀ ≤ suc last - view₀) × (Does (each ruleC view₀ (view - view₀)) next₀ mem₀ out₀ next mem out × ((length mem ≡ length mem₀) × (length out ≡ length out₀))))
