@@ -12,8 +12,6 @@ use borrow.Author.Needs.{needs}
 use native.Mathlib.Omega.{arith}
 use Rattle.judge.proofs.entry_base.Statement.{statement}
 use Rattle.judge.proofs.entry_base.Tie as tie
-use Rattle.judge.proofs.entry_base.Reads as reads
-use Rattle.judge.proofs.entry_base.Lts as lts
 use Rattle.certificate.proofs.safe.safe_certificate.Reads as safe-certificate-reads
 use Rattle.memory.proofs.entry_length.Reads as entry-length-reads
 use Rattle.memory.proofs.settings.Reads as settings-reads

@@ -11,8 +11,6 @@ use borrow.Author.Needs.{needs}
 use native.Mathlib.Omega.{arith}
 use Rattle.judge.proofs.look_up.Statement.{statement}
 use Rattle.judge.proofs.look_up.Tie as tie
-use Rattle.judge.proofs.look_up.Reads as reads
-use Rattle.judge.proofs.look_up.Lts as lts
 use Rattle.certificate.proofs.safe.safe_certificate.Reads as safe-certificate-reads
 use Rattle.codec.proofs.name_at.Reads as name-at-reads
 use Rattle.codec.proofs.num.u16_at.Reads as u16-at-reads

@@ -1,8 +1,6 @@
 use borrow.Author.Needs.{needs}
 use Rattle.judge.proofs.names.Statement.{statement}
 use Rattle.judge.proofs.names.Tie as tie
-use Rattle.judge.proofs.names.Reads as reads
-use Rattle.judge.proofs.names.Lts as lts
 use Rattle.memory.proofs.block_count.Reads as block-count-reads
 
 block-count-requires : tie.Need-block-count-requires

@@ -6,8 +6,6 @@ use borrow.Author.Needs.{needs}
 use native.Mathlib.Omega.{arith}
 use Rattle.judge.proofs.propose.Statement.{statement}
 use Rattle.judge.proofs.propose.Tie as tie
-use Rattle.judge.proofs.propose.Reads as reads
-use Rattle.judge.proofs.propose.Lts as lts
 use Rattle.judge.proofs.entry_base.Reads as entry-base-reads
 use Rattle.judge.proofs.names.Reads as names-reads
 use Rattle.judge.proofs.nothing.Reads as nothing-reads

@@ -10,8 +10,6 @@ use borrow.Author.Needs.{needs}
 use native.Mathlib.Omega.{arith}
 use Rattle.judge.proofs.record.Statement.{statement}
 use Rattle.judge.proofs.record.Tie as tie
-use Rattle.judge.proofs.record.Reads as reads
-use Rattle.judge.proofs.record.Lts as lts
 use Rattle.judge.proofs.look_up.Reads as look-up-reads
 use Rattle.judge.proofs.nothing.Reads as nothing-reads
 use Rattle.judge.proofs.shape_number.Reads as shape-number-reads

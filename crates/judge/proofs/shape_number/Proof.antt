@@ -4,8 +4,6 @@ use Rattle.judge.proofs.Shapes.{verdict-number}
 use borrow.Author.Needs.{needs}
 use Rattle.judge.proofs.shape_number.Statement.{statement}
 use Rattle.judge.proofs.shape_number.Tie as tie
-use Rattle.judge.proofs.shape_number.Reads as reads
-use Rattle.judge.proofs.shape_number.Lts as lts
 use Rattle.shape.proofs.check.Reads as check-reads
 
 check-requires : tie.Need-check-requires

@@ -4,8 +4,6 @@ use Rattle.judge.proofs.Wants.{two-first, two-second}
 use borrow.Author.Needs.{needs}
 use Rattle.judge.proofs.timer.Statement.{statement}
 use Rattle.judge.proofs.timer.Tie as tie
-use Rattle.judge.proofs.timer.Reads as reads
-use Rattle.judge.proofs.timer.Lts as lts
 use Rattle.judge.proofs.timer_number.Reads as timer-number-reads
 use Rattle.refusals.proofs.regions.regions.Reads as regions-reads
 

@@ -5,8 +5,6 @@ use Rattle.refusals.proofs.Numbers.{skip, hit, none, or-left, or-right, or-none
 use borrow.Author.Needs.{needs}
 use Rattle.judge.proofs.timer_number.Statement.{statement}
 use Rattle.judge.proofs.timer_number.Tie as tie
-use Rattle.judge.proofs.timer_number.Reads as reads
-use Rattle.judge.proofs.timer_number.Lts as lts
 use Rattle.refusals.proofs.early.below_view.Reads as below-view-reads
 
 below-view-requires : tie.Need-below-view-requires

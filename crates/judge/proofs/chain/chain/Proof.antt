@@ -7,8 +7,6 @@ use Rattle.judge.specs.Late.{sameFound, chainRules}
 use borrow.Author.Needs.{needs}
 use Rattle.judge.proofs.chain.chain.Statement.{statement}
 use Rattle.judge.proofs.chain.chain.Tie as tie
-use Rattle.judge.proofs.chain.chain.Reads as reads
-use Rattle.judge.proofs.chain.chain.Lts as lts
 use Rattle.codec.proofs.name.same.Reads as same-reads
 use Rattle.judge.proofs.chain.misplaced_on.Reads as misplaced-on-reads
 use Rattle.judge.proofs.chain.same_found.Reads as same-found-reads

@@ -5,8 +5,6 @@ use borrow.Author.Needs.{needs}
 use native.Mathlib.Omega.{arith}
 use Rattle.judge.proofs.chain.misplaced_on.Statement.{statement}
 use Rattle.judge.proofs.chain.misplaced_on.Tie as tie
-use Rattle.judge.proofs.chain.misplaced_on.Reads as reads
-use Rattle.judge.proofs.chain.misplaced_on.Lts as lts
 
 returns : tie.Need-returns
 unfolding misplacedOn

@@ -8,8 +8,6 @@ use borrow.Author.Needs.{needs}
 use native.Mathlib.Omega.{arith}
 use Rattle.judge.proofs.chain.propose_chain.Statement.{statement}
 use Rattle.judge.proofs.chain.propose_chain.Tie as tie
-use Rattle.judge.proofs.chain.propose_chain.Reads as reads
-use Rattle.judge.proofs.chain.propose_chain.Lts as lts
 use Rattle.judge.proofs.chain.store_full.Reads as store-full-reads
 
 returns : tie.Need-returns

@@ -7,8 +7,6 @@ use borrow.Author.Needs.{needs}
 use native.Mathlib.Omega.{arith}
 use Rattle.judge.proofs.chain.record_chain.Statement.{statement}
 use Rattle.judge.proofs.chain.record_chain.Tie as tie
-use Rattle.judge.proofs.chain.record_chain.Reads as reads
-use Rattle.judge.proofs.chain.record_chain.Lts as lts
 use Rattle.codec.proofs.num.u16_at.Reads as u16-at-reads
 use Rattle.judge.proofs.chain.block_chain.Reads as block-chain-reads
 use Rattle.judge.proofs.chain.chain.Reads as chain-reads

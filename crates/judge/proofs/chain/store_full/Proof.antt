@@ -1,8 +1,6 @@
 use Rattle.judge.specs.Late.{storeFull}
 use Rattle.judge.proofs.chain.store_full.Statement.{statement}
 use Rattle.judge.proofs.chain.store_full.Tie as tie
-use Rattle.judge.proofs.chain.store_full.Reads as reads
-use Rattle.judge.proofs.chain.store_full.Lts as lts
 
 returns : tie.Need-returns
 unfolding storeFull

@@ -5,8 +5,6 @@ use borrow.Author.Needs.{needs}
 use native.Mathlib.Omega.{arith}
 use Rattle.refusals.proofs.early.above_window.Statement.{statement}
 use Rattle.refusals.proofs.early.above_window.Tie as tie
-use Rattle.refusals.proofs.early.above_window.Reads as reads
-use Rattle.refusals.proofs.early.above_window.Lts as lts
 
 sub-if2 : tie.Need-sub-if2
 sub-if2 c = search needs

@@ -11,8 +11,6 @@ use borrow.Author.Needs.{needs}
 use native.Mathlib.Omega.{arith}
 use Rattle.refusals.proofs.early.ballot.Statement.{statement}
 use Rattle.refusals.proofs.early.ballot.Tie as tie
-use Rattle.refusals.proofs.early.ballot.Reads as reads
-use Rattle.refusals.proofs.early.ballot.Lts as lts
 use Rattle.codec.proofs.name.same.Reads as same-reads
 use Rattle.codec.proofs.name_at.Reads as name-at-reads
 use Rattle.memory.proofs.kept.entry_at.Reads as entry-at-reads

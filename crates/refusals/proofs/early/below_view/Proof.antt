@@ -1,8 +1,6 @@
 use borrow.Author.Tests.{lt-ltb, le-ltb}
 use Rattle.refusals.proofs.early.below_view.Statement.{statement}
 use Rattle.refusals.proofs.early.below_view.Tie as tie
-use Rattle.refusals.proofs.early.below_view.Reads as reads
-use Rattle.refusals.proofs.early.below_view.Lts as lts
 
 returns : tie.Need-returns
 returns c = rw (lt-ltb _ _ (c .if1 .taken))

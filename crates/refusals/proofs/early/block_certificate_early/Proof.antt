@@ -13,8 +13,6 @@ use Rattle.refusals.proofs.Numbers.{skip, hit, none, is-not, isnt-not}
 use borrow.Author.Needs.{needs}
 use Rattle.refusals.proofs.early.block_certificate_early.Statement.{statement}
 use Rattle.refusals.proofs.early.block_certificate_early.Tie as tie
-use Rattle.refusals.proofs.early.block_certificate_early.Reads as reads
-use Rattle.refusals.proofs.early.block_certificate_early.Lts as lts
 use Rattle.certificate.proofs.Certificate.is_good.Reads as is-good-reads
 use Rattle.certificate.proofs.Certificate.outranks.Reads as outranks-reads
 use Rattle.certificate.proofs.good.block_certificate.Reads as block-certificate-reads

@@ -3,8 +3,6 @@ use Rattle.refusals.proofs.Numbers.{skip, hit, none}
 use borrow.Author.Needs.{needs}
 use Rattle.refusals.proofs.early.block_early.Statement.{statement}
 use Rattle.refusals.proofs.early.block_early.Tie as tie
-use Rattle.refusals.proofs.early.block_early.Reads as reads
-use Rattle.refusals.proofs.early.block_early.Lts as lts
 use Rattle.codec.proofs.num.u16_at.Reads as u16-at-reads
 use Rattle.memory.proofs.settings.Reads as settings-reads
 use Rattle.settings.proofs.Settings.n.Reads as n-reads

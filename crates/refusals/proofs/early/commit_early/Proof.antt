@@ -5,8 +5,6 @@ use borrow.Author.Needs.{needs}
 use native.Mathlib.Omega.{arith}
 use Rattle.refusals.proofs.early.commit_early.Statement.{statement}
 use Rattle.refusals.proofs.early.commit_early.Tie as tie
-use Rattle.refusals.proofs.early.commit_early.Reads as reads
-use Rattle.refusals.proofs.early.commit_early.Lts as lts
 use Rattle.codec.proofs.num.u16_at.Reads as u16-at-reads
 use Rattle.memory.proofs.kept.commit_row.Reads as commit-row-reads
 use Rattle.refusals.proofs.early.ballot.Reads as ballot-reads

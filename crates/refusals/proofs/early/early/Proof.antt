@@ -8,8 +8,6 @@ use Rattle.refusals.specs.Early.{earlyRules}
 use native.Mathlib.Omega.{arith}
 use Rattle.refusals.proofs.early.early.Statement.{statement}
 use Rattle.refusals.proofs.early.early.Tie as tie
-use Rattle.refusals.proofs.early.early.Reads as reads
-use Rattle.refusals.proofs.early.early.Lts as lts
 use Rattle.codec.proofs.num.u16_at.Reads as u16-at-reads
 use Rattle.refusals.proofs.early.block_certificate_early.Reads as block-certificate-early-reads
 use Rattle.refusals.proofs.early.block_early.Reads as block-early-reads

@@ -2,8 +2,6 @@ use borrow.Author.Tests.{eq-eqb, ne-eqb, le-leb, lt-leb}
 use borrow.Author.Needs.{needs}
 use Rattle.refusals.proofs.early.not_in_turn.Statement.{statement}
 use Rattle.refusals.proofs.early.not_in_turn.Tie as tie
-use Rattle.refusals.proofs.early.not_in_turn.Reads as reads
-use Rattle.refusals.proofs.early.not_in_turn.Lts as lts
 use Rattle.memory.proofs.own.Reads as own-reads
 use Rattle.memory.proofs.settings.Reads as settings-reads
 use Rattle.memory.proofs.window.leader.Reads as leader-reads

@@ -4,8 +4,6 @@ use borrow.Author.Needs.{needs}
 use native.Mathlib.Omega.{arith}
 use Rattle.refusals.proofs.early.not_leader.Statement.{statement}
 use Rattle.refusals.proofs.early.not_leader.Tie as tie
-use Rattle.refusals.proofs.early.not_leader.Reads as reads
-use Rattle.refusals.proofs.early.not_leader.Lts as lts
 use Rattle.memory.proofs.settings.Reads as settings-reads
 use Rattle.memory.proofs.window.leader.Reads as leader-reads
 use Rattle.refusals.proofs.early.not_other.Reads as not-other-reads

@@ -2,8 +2,6 @@ use borrow.Author.Tests.{le-leb, lt-leb}
 use borrow.Author.Needs.{needs}
 use Rattle.refusals.proofs.early.not_other.Statement.{statement}
 use Rattle.refusals.proofs.early.not_other.Tie as tie
-use Rattle.refusals.proofs.early.not_other.Reads as reads
-use Rattle.refusals.proofs.early.not_other.Lts as lts
 use Rattle.memory.proofs.own.Reads as own-reads
 use Rattle.memory.proofs.settings.Reads as settings-reads
 use Rattle.settings.proofs.Settings.n.Reads as n-reads

@@ -9,8 +9,6 @@ use borrow.Author.Needs.{needs}
 use native.Mathlib.Omega.{arith}
 use Rattle.refusals.proofs.early.progress_bad.Statement.{statement}
 use Rattle.refusals.proofs.early.progress_bad.Tie as tie
-use Rattle.refusals.proofs.early.progress_bad.Reads as reads
-use Rattle.refusals.proofs.early.progress_bad.Lts as lts
 use Rattle.certificate.proofs.good.progress_good.Reads as progress-good-reads
 use Rattle.codec.proofs.num.u64_at.Reads as u64-at-reads
 

@@ -20,8 +20,6 @@ use borrow.Author.Needs.{needs}
 use native.Mathlib.Omega.{arith}
 use Rattle.refusals.proofs.early.proposal_early.Statement.{statement}
 use Rattle.refusals.proofs.early.proposal_early.Tie as tie
-use Rattle.refusals.proofs.early.proposal_early.Reads as reads
-use Rattle.refusals.proofs.early.proposal_early.Lts as lts
 use Rattle.codec.proofs.name_at.Reads as name-at-reads
 use Rattle.codec.proofs.num.u16_at.Reads as u16-at-reads
 use Rattle.codec.proofs.num.u64_at.Reads as u64-at-reads

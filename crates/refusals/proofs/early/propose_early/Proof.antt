@@ -4,8 +4,6 @@ use Rattle.refusals.proofs.Numbers.{skip, hit, none}
 use borrow.Author.Needs.{needs}
 use Rattle.refusals.proofs.early.propose_early.Statement.{statement}
 use Rattle.refusals.proofs.early.propose_early.Tie as tie
-use Rattle.refusals.proofs.early.propose_early.Reads as reads
-use Rattle.refusals.proofs.early.propose_early.Lts as lts
 use Rattle.codec.proofs.name.is_zero.Reads as is-zero-reads
 use Rattle.refusals.proofs.early.not_in_turn.Reads as not-in-turn-reads
 

@@ -15,8 +15,6 @@ use borrow.Author.Needs.{needs}
 use native.Mathlib.Omega.{arith}
 use Rattle.refusals.proofs.early.timeout_certificate_early.Statement.{statement}
 use Rattle.refusals.proofs.early.timeout_certificate_early.Tie as tie
-use Rattle.refusals.proofs.early.timeout_certificate_early.Reads as reads
-use Rattle.refusals.proofs.early.timeout_certificate_early.Lts as lts
 use Rattle.certificate.proofs.good.progress_good.Reads as progress-good-reads
 use Rattle.codec.proofs.num.u16_at.Reads as u16-at-reads
 use Rattle.codec.proofs.num.u64_at.Reads as u64-at-reads

@@ -16,8 +16,6 @@ use borrow.Author.Needs.{needs}
 use native.Mathlib.Omega.{arith}
 use Rattle.refusals.proofs.early.timeout_early.Statement.{statement}
 use Rattle.refusals.proofs.early.timeout_early.Tie as tie
-use Rattle.refusals.proofs.early.timeout_early.Reads as reads
-use Rattle.refusals.proofs.early.timeout_early.Lts as lts
 use Rattle.certificate.proofs.good.timeout_good.Reads as timeout-good-reads
 use Rattle.codec.proofs.num.u16_at.Reads as u16-at-reads
 use Rattle.codec.proofs.num.u64_at.Reads as u64-at-reads

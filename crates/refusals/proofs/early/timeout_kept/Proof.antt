@@ -7,8 +7,6 @@ use Rattle.refusals.proofs.Numbers.{skip, hit, none, and-both, and-not,
 use borrow.Author.Needs.{needs}
 use Rattle.refusals.proofs.early.timeout_kept.Statement.{statement}
 use Rattle.refusals.proofs.early.timeout_kept.Tie as tie
-use Rattle.refusals.proofs.early.timeout_kept.Reads as reads
-use Rattle.refusals.proofs.early.timeout_kept.Lts as lts
 use Rattle.codec.proofs.name.same_bytes.Reads as same-bytes-reads
 use Rattle.memory.proofs.kept.entry_at.Reads as entry-at-reads
 use Rattle.memory.proofs.kept.has.Reads as has-reads

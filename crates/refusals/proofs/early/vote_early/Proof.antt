@@ -5,8 +5,6 @@ use borrow.Author.Needs.{needs}
 use native.Mathlib.Omega.{arith}
 use Rattle.refusals.proofs.early.vote_early.Statement.{statement}
 use Rattle.refusals.proofs.early.vote_early.Tie as tie
-use Rattle.refusals.proofs.early.vote_early.Reads as reads
-use Rattle.refusals.proofs.early.vote_early.Lts as lts
 use Rattle.codec.proofs.num.u16_at.Reads as u16-at-reads
 use Rattle.memory.proofs.kept.vote_row.Reads as vote-row-reads
 use Rattle.refusals.proofs.early.ballot.Reads as ballot-reads

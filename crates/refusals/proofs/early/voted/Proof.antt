@@ -5,8 +5,6 @@ use Rattle.refusals.proofs.Numbers.{skip, hit, none, and-both, and-not,
 use borrow.Author.Needs.{needs}
 use Rattle.refusals.proofs.early.voted.Statement.{statement}
 use Rattle.refusals.proofs.early.voted.Tie as tie
-use Rattle.refusals.proofs.early.voted.Reads as reads
-use Rattle.refusals.proofs.early.voted.Lts as lts
 use Rattle.codec.proofs.name.same.Reads as same-reads
 
 returns : tie.Need-returns

@@ -3,8 +3,6 @@ use Rattle.refusals.specs.Early.{certificateSized}
 use borrow.Author.Needs.{needs}
 use Rattle.refusals.proofs.regions.certificate_sized.Statement.{statement}
 use Rattle.refusals.proofs.regions.certificate_sized.Tie as tie
-use Rattle.refusals.proofs.regions.certificate_sized.Reads as reads
-use Rattle.refusals.proofs.regions.certificate_sized.Lts as lts
 use Rattle.codec.proofs.num.u16_at.Reads as u16-at-reads
 
 u16-at-requires : tie.Need-u16-at-requires

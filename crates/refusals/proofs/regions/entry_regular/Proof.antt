@@ -6,8 +6,6 @@ use borrow.Author.Needs.{needs}
 use native.Mathlib.Omega.{arith}
 use Rattle.refusals.proofs.regions.entry_regular.Statement.{statement}
 use Rattle.refusals.proofs.regions.entry_regular.Tie as tie
-use Rattle.refusals.proofs.regions.entry_regular.Reads as reads
-use Rattle.refusals.proofs.regions.entry_regular.Lts as lts
 use Rattle.refusals.proofs.regions.certificate_sized.Reads as certificate-sized-reads
 use Rattle.memory.proofs.entry_length.Reads as entry-length-reads
 

@@ -6,8 +6,6 @@ use Rattle.refusals.proofs.Numbers.{skip, hit, none, is-not, isnt-not}
 use borrow.Author.Needs.{needs}
 use Rattle.refusals.proofs.regions.regions.Statement.{statement}
 use Rattle.refusals.proofs.regions.regions.Tie as tie
-use Rattle.refusals.proofs.regions.regions.Reads as reads
-use Rattle.refusals.proofs.regions.regions.Lts as lts
 use Rattle.refusals.proofs.regions.regular.Reads as regular-reads
 
 returns : tie.Need-returns

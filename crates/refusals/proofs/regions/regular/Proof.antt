@@ -5,8 +5,6 @@ use Rattle.refusals.proofs.Regular.{regular-is}
 use borrow.Author.Needs.{needs}
 use Rattle.refusals.proofs.regions.regular.Statement.{statement}
 use Rattle.refusals.proofs.regions.regular.Tie as tie
-use Rattle.refusals.proofs.regions.regular.Reads as reads
-use Rattle.refusals.proofs.regions.regular.Lts as lts
 use Rattle.refusals.proofs.regions.entry_regular.Reads as entry-regular-reads
 use Rattle.refusals.proofs.regions.settings_regular.Reads as settings-regular-reads
 use Rattle.memory.proofs.block_count.Reads as block-count-reads

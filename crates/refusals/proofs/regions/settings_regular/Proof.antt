@@ -5,8 +5,6 @@ use borrow.Author.Needs.{needs}
 use native.Mathlib.Omega.{arith}
 use Rattle.refusals.proofs.regions.settings_regular.Statement.{statement}
 use Rattle.refusals.proofs.regions.settings_regular.Tie as tie
-use Rattle.refusals.proofs.regions.settings_regular.Reads as reads
-use Rattle.refusals.proofs.regions.settings_regular.Lts as lts
 use Rattle.settings.proofs.Settings.n.Reads as n-reads
 
 n-requires : tie.Need-n-requires
