@@ -1,22 +1,22 @@
 -- What the tests of accepted calls leave, and the events that they allow: what others sent is kept, a block is held, a proposal is taken. Assumes nothing.
 use Prim.Native.Nat.{ℕ, suc, _+_, _-_, _≤_, _<_}
-use mathlib.Core.Bool.{Bool, true, false, cond, not, _&&_}
+use mathlib.Core.Bool.{Bool, true, false, cond}
 use mathlib.Core.List.{List, [], _∷_, _++_}
 use mathlib.Core.Logic.{_⊎_, inl, inr, ⊎-elim}
 use mathlib.Core.Path.{_≡_, refl, sym, ap, subst, _∙_}
 use native.Mathlib.Omega.{arith}
 use borrow.Author.Tests.{leb-false, ltb-true, ltb-false, eqb-true, eqb-false, not-false}
 use lib.Dec.{T, leb, ltb, eqb}
-use lib.ListN.{length, take, length-take}
+use lib.ListN.{length, length-take}
 use Rattle.settings.specs.declared.Settings.{Settings}
 use Rattle.settings.specs.Quorum.{lastView, lastHeight}
 use Rattle.codec.specs.Bytes.{IsBytes}
 use Rattle.codec.specs.Names.{nameLength, sameBytes, zeroName}
 use Rattle.codec.proofs.Order.{and-true, same-eq, which}
 use Rattle.wire.specs.Fields.{timeoutLength}
-use Rattle.wire.specs.Encode.{voteBytes, encode, joined}
-use Rattle.wire.specs.Content.{certificateOf, vote, commit, certificate, timeout, block}
-use Rattle.wire.specs.Fit.{IsName, IsU64, All, CertificateFits, Fits}
+use Rattle.wire.specs.Encode.{encode}
+use Rattle.wire.specs.Content.{certificateOf, vote, certificate, block}
+use Rattle.wire.specs.Fit.{IsName, CertificateFits, Fits}
 use Rattle.wire.proofs.Facts.{Framed}
 use Rattle.wire.proofs.Frames.{or-false}
 use Rattle.certificate.specs.Safe.{safeCertificate}
@@ -32,16 +32,16 @@ use Rattle.safety.specs.Rank.{Cert, _⊑_}
 use Rattle.safety.specs.Cluster.{HighVoted}
 use Rattle.safety.specs.Certificates.{cert}
 use Rattle.safety.specs.Trace as Trace
-use Rattle.protocol.specs.Work.{voteRecord, Work, settings, n, own, viewNow, timed, highView, tip, blocks, heldBlock, adopt, hold, keepVote, keepCommit, keepTimeout, sendVote}
+use Rattle.protocol.specs.Work.{voteRecord, Work, n, own, viewNow, timed, highView, tip, blocks, heldBlock, adopt, hold, keepVote, keepCommit, keepTimeout, sendVote}
 use Rattle.protocol.specs.Typed.{BlockTyped}
-use Rattle.protocol.specs.Refusals.{storeLength, notOther, belowView, aboveWindow, viewOfProgress, isHeld, misplaced}
+use Rattle.protocol.specs.Refusals.{storeLength, notOther, belowView, aboveWindow, viewOfProgress, misplaced}
 use Rattle.protocol.specs.Events.{mayVote, safeIn, progress, propositionOf}
 use Rattle.protocol.proofs.Regular.{Regular}
 use Rattle.protocol.proofs.Turning.{by-cases}
 use Rattle.protocol.proofs.World.{Name, World, R, size, traced, TimeoutKept, ParentHeld, VoteGround, Real}
 use Rattle.protocol.proofs.Chain.{as-found}
 use Rattle.protocol.proofs.Records.{joined-more, vote-framed}
-use Rattle.protocol.proofs.Steps.{size-is, few, vote-real, commit-real, timeout-real, adopt-view}
+use Rattle.protocol.proofs.Steps.{size-is, few, vote-real, commit-real, timeout-real}
 use Rattle.protocol.proofs.Acts.{voted-real}
 use Rattle.protocol.proofs.Storing.{hold-real}
 use Rattle.protocol.proofs.Going.{framed-more, all-left, all-right, all-head, Shown, shown-as, Sound, Seen, grown, TakenAt, over-safe, adopted-real, progress-went}

@@ -1,51 +1,46 @@
 -- The acts of a replica keep the invariant `Real`: commit, vote and timeout are sent, kept and are acts of its trace. Assumes nothing.
-use Prim.Native.Nat.{ℕ, zero, suc, _+_, _^_, _≤_, _<_}
+use Prim.Native.Nat.{ℕ, _+_, _^_, _≤_, _<_}
 use mathlib.Core.Bool.{Bool, true, false, cond}
 use mathlib.Core.List.{List, [], _∷_, _++_}
 use mathlib.Core.Logic.{_⊎_, inl, inr, ⊎-elim}
-use mathlib.Core.Path.{_≡_, refl, sym, ap, subst, _∙_}
+use mathlib.Core.Path.{_≡_, refl, ap}
 use native.Mathlib.Omega.{arith}
-use lib.Dec.{T, eqb}
-use lib.ListN.{length}
 use Rattle.settings.specs.declared.Settings.{Settings}
-use Rattle.settings.specs.Quorum.{largest, lastView, replicas}
+use Rattle.settings.specs.Quorum.{lastView}
 use Rattle.codec.specs.Names.{sameBytes, zeroName}
 use Rattle.codec.proofs.Order.{same-eq, same-ne}
 use Rattle.wire.specs.declared.Timeout.{Timeout}
 use Rattle.wire.specs.declared.Vote.{Vote}
-use Rattle.wire.specs.Encode.{voteBytes, timeoutBytes, encode}
+use Rattle.wire.specs.Encode.{timeoutBytes, encode}
 use Rattle.wire.specs.Content.{Content, vote, commit, timeout}
-use Rattle.wire.specs.Fit.{IsName, IsU16, IsU64, All, TimeoutFits, TimeoutProper, Fits, Proper}
+use Rattle.wire.specs.Fit.{IsName, TimeoutFits, TimeoutProper, Fits, Proper}
 use Rattle.wire.proofs.Lengths.{length-timeout}
 use Rattle.wire.proofs.Tables.{bytes-encode}
 use Rattle.certificate.specs.declared.Certificate.{Certificate}
-use Rattle.certificate.specs.declared.Locks.{Locks}
-use Rattle.certificate.specs.Rank.{highest, carriedCertificate}
-use Rattle.certificate.specs.Order.{kept, carriedIn}
+use Rattle.certificate.specs.Rank.{highest}
+use Rattle.certificate.specs.Order.{kept}
 use Rattle.certificate.proofs.Adopting.{highest-has}
-use Rattle.memory.specs.Layout.{entryOf}
 use Rattle.memory.proofs.Apart.{votes, commits, timeouts}
 use Rattle.memory.proofs.Entering.{Windowed}
-use Rattle.counters.specs.declared.Counters.{Counters}
-use Rattle.counters.specs.Counters.{certificateOf, locksOf, timing, voting}
+use Rattle.counters.specs.Counters.{locksOf, timing, voting}
 use Rattle.safety.specs.Rank.{Cert, _⊑_, blockOf}
-use Rattle.safety.specs.Cluster.{Good, Signed}
+use Rattle.safety.specs.Cluster.{Signed}
 use Rattle.safety.specs.Certificates.{cert}
 use Rattle.safety.specs.Certificates as Seen
 use Rattle.safety.specs.Select.{Fine}
-use Rattle.safety.specs.Run.{Read, is-vote, is-commit, is-timeout}
+use Rattle.safety.specs.Run.{is-vote, is-commit, is-timeout}
 use Rattle.safety.specs.Match.{an-act}
 use Rattle.safety.specs.Trace.{does}
 use Rattle.safety.specs.Trace as Trace
 use Rattle.safety.proofs.Rank.{⊑-refl}
 use Rattle.safety.proofs.Certificates as Cands
-use Rattle.protocol.specs.Work.{commitRecord, voteRecord, Work, view, n, own, viewNow, timed, highView, tip, blocks, withCounters, send, keepVote, keepCommit, keepTimeout, sendVote, sendCommit, ownTimeout, sendTimeout}
+use Rattle.protocol.specs.Work.{commitRecord, voteRecord, Work, view, own, viewNow, timed, highView, tip, blocks, withCounters, send, keepTimeout, sendVote, sendCommit, ownTimeout, sendTimeout}
 use Rattle.protocol.specs.Typed.{CountersTyped}
 use Rattle.protocol.specs.OneChain.{reads}
 use Rattle.protocol.proofs.Typing.{all-append}
 use Rattle.protocol.proofs.Regular.{counters-regular, send-regular}
 use Rattle.protocol.proofs.Actions.{own-high, own-carries, own-timeout-fits}
-use Rattle.protocol.proofs.World.{Name, World, R, size, Sent, traced, rowIn, VoteGround, Acted, Standing, Certified, VoteKept, CommitKept, TimeoutKept, Real}
+use Rattle.protocol.proofs.World.{Name, World, R, size, Sent, traced, VoteGround, Standing, Real}
 use Rattle.protocol.proofs.Records.{reads-encode}
 use Rattle.protocol.proofs.Steps.{row-same, all-one, size-is, few, chained-same, vote-real, commit-real, timeout-real}
 

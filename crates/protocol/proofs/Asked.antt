@@ -12,8 +12,8 @@ use Rattle.settings.specs.declared.Settings.{Settings}
 use Rattle.settings.specs.Quorum.{largest, lastView, lastHeight}
 use Rattle.codec.specs.Names.{zeroName}
 use Rattle.codec.proofs.Order.{same-ne, which}
-use Rattle.wire.specs.Encode.{proposalBytes, encode, joined}
-use Rattle.wire.specs.Content.{certificateOf, Content, certificate, timeout, proposal}
+use Rattle.wire.specs.Encode.{proposalBytes, encode}
+use Rattle.wire.specs.Content.{certificateOf, Content, certificate, proposal}
 use Rattle.wire.specs.Fit.{IsName, Fits, Proper}
 use Rattle.wire.proofs.Frames.{or-false}
 use Rattle.wire.proofs.Facts.{Quiet, Framed}

@@ -1,34 +1,33 @@
 -- A whole call keeps the invariant: an accepted one by its event and the rules, and what it made is what is cut from the bytes that it wrote. Assumes nothing.
-use Prim.Native.Nat.{ℕ, zero, suc, _+_, _≤_, _<_}
-use mathlib.Core.Bool.{Bool, true, false, cond}
+use Prim.Native.Nat.{ℕ, zero, suc, _+_, _≤_}
 use mathlib.Core.List.{List, [], _∷_, _++_, append-nil}
-use mathlib.Core.Path.{_≡_, refl, sym, ap, subst, _∙_}
+use mathlib.Core.Path.{_≡_, refl, ap, subst, _∙_}
 use native.Mathlib.Omega.{arith}
-use lib.ListN.{length, take, drop, length-append}
+use lib.ListN.{length, length-append}
 use lib.Seq.{take-append-seam, drop-append-seam}
 use Rattle.settings.specs.declared.Settings.{Settings}
-use Rattle.settings.specs.Answer.{Answer, accepts, refuses}
-use Rattle.codec.specs.Bytes.{IsBytes, part, leNat}
+use Rattle.settings.specs.Answer.{accepts}
+use Rattle.codec.specs.Bytes.{part}
 use Rattle.wire.specs.Fields.{lengthOf}
 use Rattle.wire.specs.Encode.{joined}
 use Rattle.wire.specs.Content.{content}
 use Rattle.wire.specs.Shape.{shapeRules, shapeOf}
-use Rattle.wire.specs.Fit.{IsName, IsU64, All}
-use Rattle.wire.proofs.Facts.{Framed, Quiet, off-judge}
+use Rattle.wire.specs.Fit.{All}
+use Rattle.wire.proofs.Facts.{Framed, off-judge}
 use Rattle.wire.proofs.ReadBack.{written-read, read-fits, read-proper}
 use Rattle.safety.specs.Cluster.{HighVoted}
 use Rattle.protocol.specs.Work.{Work, n, viewNow}
-use Rattle.protocol.specs.Refusals.{regionRules, refusals, timerRules, proposeRules}
+use Rattle.protocol.specs.Refusals.{regionRules, refusals}
 use Rattle.protocol.specs.Events.{onRecord, onTimer, onPropose}
 use Rattle.protocol.specs.Rules.{settle}
-use Rattle.protocol.specs.Calls.{Replica, begin, recordCore, timerCore, proposeCore, Outcome, outcome}
-use Rattle.protocol.specs.OneCall.{Call, receive, timer, propose, CallTyped, callOn, left}
-use Rattle.protocol.specs.OneChain.{calls, stepSays, stepGives, written, cutRecords}
+use Rattle.protocol.specs.Calls.{Replica, begin, recordCore, timerCore, proposeCore}
+use Rattle.protocol.specs.OneCall.{Call, receive, timer, propose, CallTyped}
+use Rattle.protocol.specs.OneChain.{calls, stepSays, stepGives, cutRecords}
 use Rattle.protocol.proofs.Regular.{Regular}
 use Rattle.protocol.proofs.Events.{record-done, timer-done, propose-done}
-use Rattle.protocol.proofs.OneCall.{quiet-append, regions-regular, coreOf, call-is}
+use Rattle.protocol.proofs.OneCall.{quiet-append, coreOf}
 use Rattle.protocol.proofs.World.{World, R, Real}
-use Rattle.protocol.proofs.Going.{Shown, Sound}
+use Rattle.protocol.proofs.Going.{Sound}
 use Rattle.protocol.proofs.Telling.{Says}
 use Rattle.protocol.proofs.Turned.{settle-sound}
 use Rattle.protocol.proofs.Received.{by-kind}

@@ -1,13 +1,12 @@
 -- The store over the tip: holding a block and releasing one keep `Chained`. A released block's ancestry leads from the tip upward, each one the parent of the
 -- next and one higher. Assumes nothing.
 use Prim.Native.Nat.{ℕ, zero, suc, _+_, _≤_, _<_}
-use native.Mathlib.Nat.{add-zero, add-suc}
 use mathlib.Core.Bool.{Bool, true, false, cond}
 use mathlib.Core.List.{List, [], _∷_, _++_, map}
 use mathlib.Core.Logic.{_⊎_, inl, inr, ⊎-elim}
 use mathlib.Core.Path.{_≡_, refl, sym, ap, subst, _∙_}
 use native.Mathlib.Omega.{arith}
-use borrow.Author.Tests.{ltb-true, lt-ltb}
+use borrow.Author.Tests.{lt-ltb}
 use lib.ListN.{length, length-append, length-map}
 use Rattle.settings.specs.declared.Settings.{Settings}
 use Rattle.settings.specs.Quorum.{lastHeight}
@@ -15,7 +14,7 @@ use Rattle.codec.specs.Names.{sameBytes, zeroName}
 use Rattle.codec.proofs.Order.{same-eq, eq-same, same-ne, ne-same, same-refl}
 use Rattle.blocks.specs.declared.Block.{Block}
 use Rattle.blocks.specs.declared.Found.{Found}
-use Rattle.blocks.specs.Store.{found, missing, find, held, below, descends, ancestry, kept}
+use Rattle.blocks.specs.Store.{found, find, held, below, descends, ancestry, kept}
 use Rattle.blocks.specs.Steps.{onwardOf}
 use Rattle.blocks.proofs.Ancestry.{never, goes-below, descends-on, descends-off, lower, ancestry-on, ancestry-off}
 use Rattle.blocks.proofs.Linked.{In, AllIn, all-more, find-in, held-in, last-tests, ancestry-last}
@@ -23,7 +22,7 @@ use Rattle.blocks.proofs.Filled.{find-append}
 use Rattle.blocks.proofs.Kept.{kept-in, in-kept}
 use Rattle.blocks.proofs.Fewer.{descends-higher}
 use Rattle.safety.specs.Cluster.{Direct}
-use Rattle.safety.specs.Rows.{Row, Upward, firsts, number}
+use Rattle.safety.specs.Rows.{Upward, firsts, number}
 use Rattle.safety.proofs.Rows.{row-upward, number-append}
 use Rattle.wire.specs.Fit.{All}
 use Rattle.protocol.proofs.Typing.{all-append}

@@ -1,7 +1,7 @@
 -- DEMAND 3 IS PROVED: over any list of entries that meets the premises of specs/OneChain.antt, all releases lie along one chain. Two passes over the run: in a world
 -- where every claim is true the replicas are traces; then the certificates and releases are backed by what the run made. Assumes nothing.
-use Prim.Native.Nat.{ℕ, _+_, _≤_, _<_}
-use mathlib.Core.Bool.{Bool, true, false, cond, false≢true}
+use Prim.Native.Nat.{ℕ, _+_}
+use mathlib.Core.Bool.{Bool, true, false, cond}
 use mathlib.Core.List.{List, [], _∷_, _++_}
 use mathlib.Core.Logic.{_⊎_, inl, inr, ⊎-elim}
 use mathlib.Core.Path.{_≡_, refl, sym, ap, subst, _∙_}
@@ -19,8 +19,8 @@ use Rattle.wire.proofs.Facts.{off-judge}
 use Rattle.wire.proofs.ReadBack.{read-written, read-proper}
 use Rattle.blocks.specs.declared.Block.{Block}
 use Rattle.safety.specs.Lists.{In}
-use Rattle.safety.specs.Cluster.{Cluster, HighVoted, EnoughHonest}
-use Rattle.safety.specs.Rows.{firsts, OneParent, nothing, up-to, Released}
+use Rattle.safety.specs.Cluster.{Cluster, HighVoted}
+use Rattle.safety.specs.Rows.{OneParent, nothing, up-to}
 use Rattle.safety.proofs.Lists.{in-right, in-append, in-all}
 use Rattle.safety.specs.Run.{is-vote, is-commit, Log, AllAllowed, tag, own, after, end, log, births, made, cluster, AtEnd, Keeps}
 use Rattle.safety.proofs.Rank.{needed-honest}

@@ -1,26 +1,25 @@
 -- What a replica forms of what it keeps is backed by the run: a timeout certificate of the kept timeouts, a block certificate of the kept votes, a direct release by
 -- kept votes or commits. Assumes nothing.
-use Prim.Native.Nat.{ℕ, zero, suc, _+_, _*_, _/_, _^_, _≤_, _<_}
-use mathlib.Core.Bool.{Bool, true, false, cond, _&&_, true≢false}
-use mathlib.Core.List.{List, [], _∷_, _++_, map}
-use mathlib.Core.Logic.{_⊎_, inl, inr, ⊎-elim}
+use Prim.Native.Nat.{ℕ, zero, suc, _+_, _^_, _≤_, _<_}
+use mathlib.Core.Bool.{Bool, true, false, cond}
+use mathlib.Core.List.{List, [], _∷_, map}
+use mathlib.Core.Logic.{_⊎_, inl, inr}
 use mathlib.Core.Path.{_≡_, refl, sym, ap, subst, _∙_}
 use native.Mathlib.Nat.{add-zero, zero-add, lt-of-lt-of-le}
 use native.Mathlib.Omega.{arith}
 use lib.Dec.{T}
 use lib.Pow.{pow-mono}
-use lib.ListN.{length, length-append}
+use lib.ListN.{length}
 use Rattle.settings.specs.declared.Settings.{Settings}
-use Rattle.settings.specs.Quorum.{largest, lastView, replicas, blockQuorum, timeoutQuorum, slowQuorum, fastQuorum}
+use Rattle.settings.specs.Quorum.{largest, lastView, blockQuorum, timeoutQuorum, slowQuorum, fastQuorum}
 use Rattle.codec.specs.Names.{nameLength, sameBytes}
 use Rattle.codec.proofs.Order.{and-true, same-eq}
 use Rattle.wire.specs.declared.Timeout.{Timeout}
 use Rattle.wire.specs.Fields.{timeoutLength}
 use Rattle.wire.specs.Encode.{joined, timeoutBytes, timeoutsBytes, blockCertificateBytes, certificateBytes}
 use Rattle.wire.specs.Content.{Certificate, byBlock, byTimeouts, certificateOf}
-use Rattle.wire.specs.Fit.{IsName, All, TimeoutFits, TimeoutProper, CertificateFits, TimeoutsProper, CertificateProper}
-use Rattle.wire.proofs.Slots.{all-impl, all-both}
-use Rattle.wire.proofs.Tables.{length-row}
+use Rattle.wire.specs.Fit.{IsName, All, TimeoutFits, CertificateFits, TimeoutsProper, CertificateProper}
+use Rattle.wire.proofs.Slots.{all-impl}
 use Rattle.wire.proofs.Contents.{certificate-back}
 use Rattle.certificate.specs.Order.{carriedIn}
 use Rattle.certificate.specs.Safe.{safeOfTimeouts, safeCertificate}
@@ -28,31 +27,26 @@ use Rattle.certificate.specs.Rank.{carriedCertificate}
 use Rattle.certificate.specs.Good.{signersNeeded}
 use Rattle.certificate.proofs.Chosen.{chosen-has}
 use Rattle.certificate.proofs.Backing.{backing-lt, proper-ascending}
-use Rattle.memory.specs.Layout.{memoryLength, rowSize, voteRow, commitRow, timeoutRow}
+use Rattle.memory.specs.Layout.{voteRow, commitRow, timeoutRow}
 use Rattle.memory.specs.Kept.{has, kept, keptCount, gathered, backs, tally}
 use Rattle.memory.specs.Formed.{formed}
-use Rattle.memory.proofs.Apart.{votes, commits, timeouts, row-fits}
+use Rattle.memory.proofs.Apart.{votes, commits, timeouts}
 use Rattle.memory.proofs.Bits.{counted}
 use Rattle.memory.proofs.Counting.{kept-counted, tally-counted}
 use Rattle.memory.proofs.Rows.{tally-signers}
-use Rattle.memory.proofs.Entering.{Windowed}
-use Rattle.safety.specs.Count.{count, Ascend}
+use Rattle.safety.specs.Count.{count}
 use Rattle.safety.specs.Rank.{blockOf}
-use Rattle.safety.specs.Cluster.{Good, Signed, Fast, Slow, Direct, HighVoted, TimeoutCert, Progress}
-use Rattle.safety.specs.Certificates.{cert}
+use Rattle.safety.specs.Cluster.{Good, Signed, Direct, HighVoted}
 use Rattle.safety.specs.Select.{Fine, GoodTimeouts}
 use Rattle.safety.proofs.Count.{count-lowest}
 use Rattle.safety.proofs.Certificates.{held, safe-timeouts}
 use Rattle.safety.proofs.Signers.{ascend}
-use Rattle.protocol.specs.Work.{Work, settings, n, own, viewNow}
-use Rattle.protocol.specs.Applies.{votesFor, commitsFor, signersFor, timeoutsKept}
-use Rattle.protocol.proofs.Typing.{safe-typed}
+use Rattle.protocol.specs.Work.{n}
 use Rattle.protocol.proofs.Forms.{fits-typed}
-use Rattle.protocol.proofs.Backed.{backed-entry, entry-name}
 use Rattle.protocol.proofs.Records.{proper-few}
-use Rattle.protocol.proofs.World.{Name, World, R, size, VoteKept, CommitKept, TimeoutKept, Real}
-use Rattle.protocol.proofs.Steps.{size-is, few}
-use Rattle.protocol.proofs.Going.{Taken, TakenAt}
+use Rattle.protocol.proofs.World.{Name, World, R, size, VoteKept, CommitKept, TimeoutKept}
+use Rattle.protocol.proofs.Steps.{size-is}
+use Rattle.protocol.proofs.Going.{TakenAt}
 
 -- two ways of counting are one
 counts-same : (t : ℕ → Bool) (k : ℕ) → counted t k ≡ count t k

@@ -1,31 +1,28 @@
 -- A replica in the middle of a call (`Sound`): once the records written so far in this call are in the run, the invariant holds; so no step looks ahead. What a
 -- progress certificate does keeps it. Assumes nothing.
-use Prim.Native.Nat.{ℕ, zero, suc, _+_, _-_, _^_, _≤_, _<_, max}
-use mathlib.Core.Bool.{Bool, true, false, cond}
-use mathlib.Core.List.{List, [], _∷_, _++_, append-assoc, append-nil}
-use mathlib.Core.Logic.{_⊎_, inl, inr, ⊎-elim}
+use Prim.Native.Nat.{ℕ, suc, _+_, _-_, _^_, _≤_, _<_}
+use mathlib.Core.List.{List, [], _∷_, _++_, append-assoc}
+use mathlib.Core.Logic.{inl, inr}
 use mathlib.Core.Path.{_≡_, refl, sym, ap, subst, _∙_}
 use native.Mathlib.Omega.{arith}
 use borrow.Author.Tests.{leb-true, leb-false, ltb-true}
-use lib.Dec.{T, leb, ltb}
+use lib.Dec.{leb}
 use lib.ListN.{length}
 use Rattle.settings.specs.declared.Settings.{Settings}
 use Rattle.settings.specs.Quorum.{lastView}
 use Rattle.codec.specs.Names.{nameLength}
-use Rattle.wire.specs.Encode.{voteBytes, certificateBytes, encode, joined}
+use Rattle.wire.specs.Encode.{certificateBytes, encode, joined}
 use Rattle.wire.specs.Content.{Certificate, byBlock, byTimeouts, certificateOf, Content, vote, commit, certificate, timeout, proposal, block, release, content}
-use Rattle.wire.specs.Fit.{IsName, IsU16, All, CertificateFits, CertificateProper, Fits, Proper}
+use Rattle.wire.specs.Fit.{IsName, All, CertificateFits, CertificateProper, Fits, Proper}
 use Rattle.wire.proofs.ReadBack.{read-written}
 use Rattle.wire.proofs.Facts.{Framed}
 use Rattle.certificate.specs.Safe.{safeCertificate}
-use Rattle.blocks.specs.declared.Block.{Block}
 use Rattle.memory.specs.Layout.{blockCountOf, withEntry}
 use Rattle.memory.specs.Window.{entered}
 use Rattle.memory.specs.Kept.{keep}
 use Rattle.memory.proofs.Header.{same-header, keep-head, entry-block-count}
 use Rattle.memory.proofs.Entering.{entered-head}
 use Rattle.memory.proofs.Apart.{commits, rowOf, widthOf}
-use Rattle.memory.proofs.Entering.{Windowed}
 use Rattle.counters.specs.Counters.{entering, adopting, withLocks, locksOf}
 use Rattle.safety.specs.Rank.{Cert, _⊑_, blockOf}
 use Rattle.safety.specs.Cluster.{Good, Signed, Progress}
@@ -33,17 +30,16 @@ use Rattle.safety.specs.Certificates.{cert}
 use Rattle.safety.specs.Certificates as Safety
 use Rattle.safety.specs.Trace as Trace
 use Rattle.safety.specs.Run.{is-other}
-use Rattle.protocol.specs.Work.{commitRecord, Work, settings, n, own, viewNow, timed, tip, blocks, send, adopt, enterBy, keepCommit, sendCommit}
+use Rattle.protocol.specs.Work.{commitRecord, Work, own, viewNow, timed, tip, blocks, send, adopt, enterBy, keepCommit, sendCommit}
 use Rattle.protocol.specs.Typed.{CertificateTyped}
 use Rattle.protocol.specs.Refusals.{viewOfProgress}
 use Rattle.protocol.specs.Events.{mayCommit, safeIn, withSender, commitAfter, progress}
 use Rattle.protocol.specs.OneChain.{reads}
-use Rattle.protocol.proofs.Regular.{Regular}
 use Rattle.protocol.proofs.Typing.{all-append}
 use Rattle.protocol.proofs.Turning.{by-cases}
-use Rattle.protocol.proofs.World.{Name, World, R, size, Sent, traced, Standing, Entry, Real}
+use Rattle.protocol.proofs.World.{Name, World, R, size, Sent, traced, Real}
 use Rattle.protocol.proofs.Records.{reads-encode, with-sender, joined-more, vote-framed, sender-framed}
-use Rattle.protocol.proofs.Steps.{all-one, sent-real, raised, adopt-top, adopt-view, adopt-timed, adopt-tip, adopt-real, entered-real}
+use Rattle.protocol.proofs.Steps.{all-one, sent-real, raised, adopt-top, adopt-real, entered-real}
 use Rattle.protocol.proofs.Acts.{committed-real}
 
 pub all-left : {A : Type 0} (P : A → Type 0) (l m : List A) → All P (l ++ m) → All P l

@@ -3,14 +3,14 @@
 use Prim.Native.Nat.{ℕ, _+_, _%_, _≤_, _<_}
 use mathlib.Core.Bool.{Bool, true, false}
 use mathlib.Core.List.{List}
-use mathlib.Core.Path.{_≡_, refl, sym, ap, subst, _∙_}
+use mathlib.Core.Path.{_≡_, refl, sym, ap, _∙_}
 use native.Mathlib.Omega.{arith}
 use borrow.Author.Tests.{eqb-true, eqb-false, leb-true, leb-false}
 use lib.Dec.{eqb, leb}
 use lib.ListN.{length}
 use Rattle.settings.specs.Quorum.{largest}
 use Rattle.codec.specs.Bytes.{IsBytes, part}
-use Rattle.memory.specs.Layout.{votesPlace, memoryLength, entryRoom, withEntry, withBlockCount}
+use Rattle.memory.specs.Layout.{memoryLength, entryRoom, withEntry, withBlockCount}
 use Rattle.memory.specs.Kept.{has, kept, keep}
 use Rattle.memory.specs.Window.{entered}
 use Rattle.memory.proofs.Apart.{Table, votes, commits, timeouts, rowsOf, rowOf, sizeOf, widthOf, row-head, row-fits, rows-apart}

@@ -1,8 +1,8 @@
 -- Every call of a run keeps the invariant of its replica, and an accepted opening establishes it. Assumes nothing.
-use Prim.Native.Nat.{ℕ, zero, suc, _+_, _^_, _≤_, _<_}
+use Prim.Native.Nat.{ℕ, _+_, _≤_, _<_}
 use mathlib.Core.Bool.{Bool, true, false, cond, true≢false, false≢true}
 use mathlib.Core.List.{List, [], _∷_, _++_, append-nil}
-use mathlib.Core.Logic.{_⊎_, inl, inr, ⊎-elim}
+use mathlib.Core.Logic.{inl, inr}
 use mathlib.Core.Path.{_≡_, refl, sym, ap, subst, _∙_}
 use native.Mathlib.Omega.{arith}
 use lib.Dec.{T, lit<, lit≤}
@@ -19,9 +19,9 @@ use Rattle.wire.specs.Fit.{All, CertificateFits, CertificateProper}
 use Rattle.wire.proofs.Slots.{all-impl}
 use Rattle.certificate.specs.Safe.{safeCertificate}
 use Rattle.blocks.specs.declared.Block.{Block}
-use Rattle.memory.specs.Layout.{memoryLength, settingsOf, ownOf, blockCountOf, entryOf}
+use Rattle.memory.specs.Layout.{memoryLength, ownOf, entryOf}
 use Rattle.memory.specs.Kept.{has}
-use Rattle.memory.proofs.Apart.{Table, votes, commits, timeouts, rowOf}
+use Rattle.memory.proofs.Apart.{Table, votes, commits, timeouts}
 use Rattle.counters.specs.Counters.{opened, certificateOf}
 use Rattle.safety.specs.Lists.{In}
 use Rattle.safety.proofs.Lists.{in-left, in-right}
@@ -31,20 +31,19 @@ use Rattle.safety.specs.Rows.{none}
 use Rattle.safety.specs.Match.{start}
 use Rattle.safety.specs.Trace as Trace
 use Rattle.safety.specs.Run.{StepKeeps, Log}
-use Rattle.protocol.specs.Work.{Work, n, viewNow, tip, blocks}
+use Rattle.protocol.specs.Work.{Work, n, viewNow, blocks}
 use Rattle.protocol.specs.Typed.{BlockTyped}
 use Rattle.protocol.specs.Refusals.{storeLength}
 use Rattle.protocol.specs.Calls.{Replica, begin, openingCore, openingCall, Outcome, outcome}
 use Rattle.protocol.specs.OneCall.{Call, CallTyped, callOn, left}
-use Rattle.protocol.specs.OneChain.{Step, calls, reopens, Entry, outcomeOf, accepted, written, cutRecords, makes, stepSays, says, recordGives, recordsGive, stepGives, gives, StepTyped, Refused, replicaMachine, Opened}
-use Rattle.protocol.proofs.Regular.{Regular}
+use Rattle.protocol.specs.OneChain.{Step, calls, reopens, outcomeOf, accepted, written, cutRecords, makes, stepSays, says, recordGives, recordsGive, stepGives, gives, StepTyped, Refused, replicaMachine, Opened}
 use Rattle.protocol.proofs.Typing.{zero-is-name}
 use Rattle.protocol.proofs.Opened.{Openable, openedWork, opening-accepts, opened-settings, opened-own, opened-count, opened-entry, opened-none, opened-regular}
-use Rattle.protocol.proofs.OneCall.{begin-regular, coreOf, call-is, opening-refused}
-use Rattle.protocol.proofs.World.{Name, World, R, size, Sent, Standing, Named, VoteKept, CommitKept, TimeoutKept, Real}
+use Rattle.protocol.proofs.OneCall.{begin-regular, coreOf, call-is}
+use Rattle.protocol.proofs.World.{World, R, size, Sent, Standing, Named, VoteKept, CommitKept, TimeoutKept, Real}
 use Rattle.protocol.proofs.Holding.{HoldsIn}
 use Rattle.protocol.proofs.Formed.{pow-positive}
-use Rattle.protocol.proofs.Going.{ShownAs, Shown, Sound}
+use Rattle.protocol.proofs.Going.{ShownAs, Shown}
 use Rattle.protocol.proofs.Telling.{ToldAs, Told, Says}
 use Rattle.protocol.proofs.Calling.{cut-joined, core-sound}
 

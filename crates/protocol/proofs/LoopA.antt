@@ -1,11 +1,10 @@
 -- Rule A at the views of the window, ascending: each run is a turn of the loop, and afterwards A applies nowhere. Assumes nothing.
 use mathlib.Core.Path.{_≡_, refl, sym, subst, _∙_}
 use mathlib.Core.Logic.{⊎-elim}
-use mathlib.Core.Bool.{Bool, true, false, _&&_, true≢false}
+use mathlib.Core.Bool.{true, false, true≢false}
 use Prim.Native.Nat.{ℕ, suc, _+_, _≤_, _<_}
 use native.Mathlib.Omega.{arith}
 use borrow.Author.Tests.{leb-true, le-leb, ltb-true, lt-ltb}
-use lib.Dec.{leb, ltb}
 use Rattle.codec.proofs.Order.{and-true, which}
 use Rattle.memory.specs.Window.{highest}
 use Rattle.counters.specs.Counters.{timing}

@@ -1,18 +1,16 @@
 -- Rule B at the views of the window, ascending: each run is a turn of the loop, and afterwards neither A nor B applies anywhere. Assumes nothing.
 use mathlib.Core.Path.{_≡_, refl, sym, ap, subst, _∙_}
 use mathlib.Core.Logic.{⊎-elim}
-use mathlib.Core.Bool.{Bool, true, false, _&&_, true≢false}
+use mathlib.Core.Bool.{true, false, true≢false}
 use mathlib.Core.List.{List, map}
 use Prim.Native.Nat.{ℕ, suc, _+_, _≤_, _<_}
 use native.Mathlib.Omega.{arith}
 use borrow.Author.Tests.{leb-true, le-leb}
-use lib.Dec.{leb}
 use Rattle.settings.specs.Quorum.{lastView, timeoutQuorum}
 use Rattle.codec.proofs.Order.{and-true, which}
 use Rattle.wire.specs.declared.Timeout.{Timeout}
 use Rattle.wire.specs.Fields.{slots}
 use Rattle.wire.specs.Content.{timeoutOf, byTimeouts, certificateOf}
-use Rattle.certificate.specs.Safe.{safeCertificate}
 use Rattle.memory.specs.Window.{highest}
 use Rattle.memory.specs.Formed.{formed}
 use Rattle.counters.specs.Counters.{entering}

@@ -24,7 +24,7 @@ use Rattle.memory.specs.Layout.{entryRoom, ballotRows, timeoutRows, blockCountO
 use Rattle.memory.specs.Window.{lowest}
 use Rattle.memory.specs.Decided.{noChoice, nextDecided}
 use Rattle.memory.proofs.Header.{count-put}
-use Rattle.protocol.specs.Work.{Work, n, own, viewNow, tip, blocks, heldBlock, release}
+use Rattle.protocol.specs.Work.{Work, own, viewNow, tip, blocks, heldBlock, release}
 use Rattle.protocol.specs.Typed.{BlockTyped}
 use Rattle.protocol.specs.Refusals.{storeLength}
 use Rattle.protocol.specs.Rules.{tries, ruleA, ruleB, ruleC, ruleD, enoughToRelease, releasable, Pair, lowestPair, ballotViews, timeoutViews, each, again, settle}

@@ -1,13 +1,13 @@
 -- The refusals of each call stand in 01's order: "Refusals, by place, in this order". Assumes nothing.
 use Prim.Native.Nat.{ℕ, _≤_}
-use mathlib.Core.List.{List, [], _∷_, _++_}
+use mathlib.Core.List.{List, [], _∷_}
 use native.Mathlib.Omega.{arith}
 use Rattle.settings.specs.declared.Settings.{Settings}
 use Rattle.settings.specs.Answer.{Rule}
 use Rattle.settings.specs.Opening.{openingRules}
-use Rattle.wire.specs.Content.{byBlock, byTimeouts, Content, vote, commit, certificate, timeout, proposal, block, release, content}
+use Rattle.wire.specs.Content.{byBlock, byTimeouts, Content, vote, commit, certificate, timeout, proposal, block, release}
 use Rattle.wire.specs.Shape.{shapeRules}
-use Rattle.protocol.specs.Work.{Work, n}
+use Rattle.protocol.specs.Work.{Work}
 use Rattle.protocol.specs.Refusals.{regionRules, refusals, timerRules, proposeRules}
 use Rattle.protocol.specs.Calls.{_then_}
 use Rattle.protocol.specs.OneCall.{InOrder}

@@ -5,7 +5,7 @@ use mathlib.Core.Path.{_≡_, refl, ap, _∙_}
 use mathlib.Core.Bool.{Bool, true, false, cond, not, _&&_}
 use mathlib.Core.List.{List}
 use borrow.Author.Tests.{leb-false, eq-eqb}
-use lib.Dec.{eqb, leb, ltb}
+use lib.Dec.{eqb, leb}
 use lib.ListN.{length, take}
 use Rattle.settings.specs.Quorum.{largest}
 use Rattle.codec.specs.Bytes.{IsBytes}
@@ -14,7 +14,6 @@ use Rattle.wire.specs.Fields.{voteLength}
 use Rattle.wire.specs.Content.{Certificate, byBlock, byTimeouts, certificateOf}
 use Rattle.wire.specs.Fit.{IsU64, CertificateFits}
 use Rattle.certificate.specs.declared.Certificate.{Certificate as Adoptable}
-use Rattle.certificate.specs.Safe.{safeCertificate}
 use Rattle.blocks.specs.declared.Block.{Block}
 use Rattle.blocks.specs.Store.{held}
 use Rattle.memory.specs.Layout.{entryRoom, blockCountOf}
@@ -23,7 +22,7 @@ use Rattle.memory.proofs.Apart.{commits}
 use Rattle.memory.proofs.Entering.{entered-head}
 use Rattle.memory.proofs.Header.{same-header, keep-head, entry-block-count}
 use Rattle.counters.specs.Counters.{adopting, withLocks, entering}
-use Rattle.protocol.specs.Work.{Work, settings, n, own, viewNow, timed, highView, tip, heldBlock, send, adopt, enterBy, hold, keepCommit, sendVote, sendCommit}
+use Rattle.protocol.specs.Work.{Work, settings, n, own, viewNow, tip, heldBlock, send, adopt, enterBy, hold, keepCommit, sendVote, sendCommit}
 use Rattle.protocol.specs.Typed.{BlockTyped}
 use Rattle.protocol.specs.Refusals.{storeLength, viewOfProgress, noRoom}
 use Rattle.protocol.specs.Events.{mayCommit, mayVote, safeIn, withSender, commitAfter, progress, propositionOf}

@@ -1,16 +1,15 @@
 -- An accepted record keeps the invariant, whatever its kind. Assumes nothing.
 use Prim.Native.Nat.{ℕ, suc, _+_, _-_, _^_, _≤_, _<_}
-use mathlib.Core.Bool.{true, false, not, true≢false}
+use mathlib.Core.Bool.{true, false, true≢false}
 use mathlib.Core.List.{List, [], _∷_, _++_}
 use mathlib.Core.Path.{_≡_, refl, sym, ap, subst, _∙_}
 use native.Mathlib.Omega.{arith}
 use borrow.Author.Tests.{leb-false, ltb-false, eqb-true, not-false}
-use lib.Dec.{T, leb, ltb, eqb}
+use lib.Dec.{T, leb}
 use lib.ListN.{length}
 use Rattle.settings.specs.declared.Settings.{Settings}
 use Rattle.settings.specs.Quorum.{largest, lastView, lastHeight, replicas}
 use Rattle.codec.specs.Bytes.{IsBytes}
-use Rattle.codec.specs.Names.{sameBytes}
 use Rattle.codec.proofs.Order.{and-true, same-eq, which}
 use Rattle.wire.specs.Fields.{progressOf}
 use Rattle.wire.specs.Encode.{timeoutBytes, certificateBytes, encode}
@@ -25,12 +24,10 @@ use Rattle.certificate.specs.Rank.{blockCertificate}
 use Rattle.certificate.specs.Safe.{safeCertificate}
 use Rattle.certificate.specs.Good.{isGood, timeoutGood, progressGood}
 use Rattle.blocks.specs.declared.Block.{Block}
-use Rattle.blocks.specs.Store.{held}
 use Rattle.memory.specs.Layout.{blockCountOf}
 use Rattle.safety.specs.Cluster.{HighVoted}
-use Rattle.safety.specs.Certificates.{cert}
 use Rattle.safety.specs.Trace as Trace
-use Rattle.protocol.specs.Work.{Work, settings, n, viewNow, tip, blocks, heldBlock, hold}
+use Rattle.protocol.specs.Work.{Work, settings, n, viewNow, tip, blocks, heldBlock}
 use Rattle.protocol.specs.Typed.{BlockTyped}
 use Rattle.protocol.specs.Refusals.{storeLength, viewOfProgress, misplaced, noRoom, safeName, child, refusals}
 use Rattle.protocol.specs.Events.{progress, propositionOf, onRecord}

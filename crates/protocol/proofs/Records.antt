@@ -1,11 +1,10 @@
 -- Records that a replica writes, as bytes: what they read as, which forms they have, how they stand one after another. Assumes nothing.
-use Prim.Native.Nat.{ℕ, zero, suc, _+_, _*_, _/_, _^_, _≤_, _<_}
-use mathlib.Core.Bool.{Bool, true, false, cond}
-use mathlib.Core.List.{List, [], _∷_, _++_, map, append-assoc, append-nil}
-use mathlib.Core.Logic.{_⊎_, inl, inr}
+use Prim.Native.Nat.{ℕ, suc, _+_, _/_, _^_, _≤_, _<_}
+use mathlib.Core.List.{List, [], _∷_, _++_, append-assoc, append-nil}
+use mathlib.Core.Logic.{inl, inr}
 use mathlib.Core.Path.{_≡_, refl, sym, ap, subst, _∙_}
 use native.Mathlib.Omega.{arith}
-use lib.ListN.{length, take, drop, length-append, length-map}
+use lib.ListN.{length, length-append}
 use Rattle.settings.specs.Quorum.{largest}
 use Rattle.codec.specs.Bytes.{IsBytes, part, patch, leNat, leBytes}
 use Rattle.codec.specs.Names.{nameLength}
@@ -14,18 +13,15 @@ use Rattle.codec.proofs.Le.{leNat-leBytes, length-leBytes}
 use Rattle.wire.proofs.Lengths.{length-header, length-timeouts}
 use Rattle.wire.specs.declared.Timeout.{Timeout}
 use Rattle.wire.specs.Fields.{countOf, voteLength, releaseLength, timeoutLength, timeoutsHead, proposalHead, blockCertificateLength}
-use Rattle.wire.specs.Encode.{joined, timeoutBytes, headerBytes, voteBytes, releaseBytes, proposalBytes, blockCertificateBytes, timeoutsBytes, certificateBytes, encode}
-use Rattle.wire.specs.Content.{Certificate, byBlock, byTimeouts, certificateOf, Content, certificate, content}
-use Rattle.wire.specs.Fit.{All, IsU16, TimeoutFits, CertificateFits, TimeoutsProper, CertificateProper, Fits}
-use Rattle.wire.proofs.Tables.{Stands, stands-encode, length-stands, length-row, bytes-encode, framed-stands}
-use Rattle.wire.proofs.Contents.{certificate-back}
+use Rattle.wire.specs.Encode.{joined, headerBytes, voteBytes, releaseBytes, proposalBytes, blockCertificateBytes, timeoutsBytes, certificateBytes, encode}
+use Rattle.wire.specs.Content.{Certificate, byBlock, byTimeouts, Content, certificate}
+use Rattle.wire.specs.Fit.{CertificateFits, TimeoutsProper, CertificateProper, Fits}
+use Rattle.wire.proofs.Tables.{stands-encode, length-stands, length-row, bytes-encode, framed-stands}
 use Rattle.wire.proofs.ReadBack.{read-written}
 use Rattle.wire.proofs.Facts.{Framed}
 use Rattle.memory.specs.Layout.{entryRoom}
-use Rattle.protocol.specs.Work.{Work}
-use Rattle.protocol.specs.Refusals.{viewOfProgress}
 use Rattle.protocol.specs.Events.{withSender}
-use Rattle.protocol.specs.OneChain.{readOf, reads, cutRecords}
+use Rattle.protocol.specs.OneChain.{readOf, reads}
 use Rattle.protocol.proofs.Regular.{EntryForm}
 use Rattle.protocol.proofs.World.{Sent}
 

@@ -4,26 +4,24 @@ use native.Mathlib.Omega.{arith}
 use mathlib.Core.Path.{_≡_, refl}
 use mathlib.Core.Bool.{Bool, true, false, cond, _&&_}
 use mathlib.Core.List.{List}
-use lib.Dec.{leb, ltb}
+use lib.Dec.{leb}
 use lib.ListN.{length}
-use Rattle.settings.specs.Quorum.{lastView, timeoutQuorum}
+use Rattle.settings.specs.Quorum.{lastView}
 use Rattle.codec.specs.Bytes.{IsBytes}
 use Rattle.codec.proofs.Order.{and-true}
 use Rattle.wire.specs.Fields.{kindOf, blockCertificateLength}
 use Rattle.wire.specs.Content.{Certificate, byBlock, byTimeouts, certificateOf}
 use Rattle.wire.specs.Fit.{CertificateFits}
 use Rattle.certificate.specs.Rank.{blockCertificate, outranks}
-use Rattle.certificate.specs.Safe.{safeCertificate}
-use Rattle.memory.specs.Layout.{blockCountOf, timeoutRow, voteRow}
-use Rattle.memory.specs.Kept.{keptCount}
+use Rattle.memory.specs.Layout.{blockCountOf, voteRow}
 use Rattle.memory.specs.Window.{lowest}
 use Rattle.memory.specs.Decided.{noChoice, nextDecided}
 use Rattle.counters.specs.Counters.{locksOf}
-use Rattle.protocol.specs.Work.{Work, settings, n, own, viewNow, timed, tip, blocks, heldBlock, send, adopt, enterBy}
+use Rattle.protocol.specs.Work.{Work, settings, n, own, viewNow, tip, blocks, heldBlock, send, adopt, enterBy}
 use Rattle.protocol.specs.Typed.{BlockTyped}
 use Rattle.protocol.specs.Refusals.{viewOfProgress}
 use Rattle.protocol.specs.Events.{mayCommit, safeIn, withSender, commitAfter, progress}
-use Rattle.protocol.specs.Rules.{testA, testB, ruleA, ruleB, ruleC, ruleD, enoughVotes, formedBlock, lowestPair, ballotViews, timeoutViews, each, again, settle}
+use Rattle.protocol.specs.Rules.{testA, testB, ruleA, ruleB, ruleC, ruleD, enoughVotes, formedBlock, lowestPair, ballotViews, each}
 use Rattle.protocol.proofs.Typing.{all-take, held-typed}
 use Rattle.protocol.proofs.Regular.{EntryForm, Regular, Still, ProgressForm, still-refl, still-trans, send-regular, adopt-regular, adopt-still, enter-regular}
 use Rattle.protocol.proofs.Actions.{same-still, commit-regular, timeout-regular, release-regular}

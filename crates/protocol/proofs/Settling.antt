@@ -1,7 +1,6 @@
 -- A turn of the rules, and so their run, leaves regions that pass refusal 2, with settings and own number as they were. Assumes nothing.
-use Prim.Native.Nat.{ℕ, _≤_, _<_}
+use Prim.Native.Nat.{ℕ}
 use mathlib.Core.List.{List}
-use mathlib.Core.Path.{_≡_}
 use native.Mathlib.Omega.{arith}
 use Rattle.wire.specs.Fit.{IsName}
 use Rattle.memory.specs.Layout.{voteRow}

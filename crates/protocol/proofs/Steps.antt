@@ -1,71 +1,55 @@
 -- Each action of a replica keeps the invariant `Real`: keeping what others sent, adopting, entering, the acts (vote, commit, timeout), holding a block, releasing.
 -- Assumes nothing.
-use Prim.Native.Nat.{ℕ, zero, suc, _+_, _-_, _^_, _≤_, _<_}
-use mathlib.Core.Bool.{Bool, true, false, cond}
-use mathlib.Core.List.{List, [], _∷_, _++_, map, append-assoc, append-nil}
-use mathlib.Core.Logic.{_⊎_, inl, inr, ⊎-elim}
+use Prim.Native.Nat.{ℕ, suc, _+_, _-_, _^_, _≤_, _<_}
+use mathlib.Core.Bool.{Bool, true, false}
+use mathlib.Core.List.{List, [], _∷_, _++_, append-assoc, append-nil}
 use mathlib.Core.Path.{_≡_, refl, sym, ap, subst, _∙_}
 use native.Mathlib.Omega.{arith}
 use lib.Dec.{T}
-use lib.ListN.{length, take, drop, set, length-append, length-map, length-take, length-drop}
-use lib.Seq.{take-suc-set}
+use lib.ListN.{length, drop, set, length-take, length-drop}
 use Rattle.settings.specs.declared.Settings.{Settings}
 use Rattle.settings.specs.declared.View.{View}
-use Rattle.settings.specs.Quorum.{largest, lastView, lastHeight, replicas}
+use Rattle.settings.specs.Quorum.{largest, lastView, replicas}
 use Rattle.codec.specs.Bytes.{IsBytes, part}
-use Rattle.codec.specs.Names.{nameLength, zeroName}
-use Rattle.wire.specs.declared.Timeout.{Timeout}
-use Rattle.wire.specs.declared.Vote.{Vote}
+use Rattle.codec.specs.Names.{nameLength}
 use Rattle.wire.specs.Fields.{timeoutLength}
-use Rattle.wire.specs.Encode.{voteBytes, timeoutBytes, releaseBytes, certificateBytes, encode, joined}
-use Rattle.wire.specs.Content.{Content, vote, commit, timeout}
+use Rattle.wire.specs.Content.{vote, commit, timeout}
 use Rattle.wire.specs.Content as Content
-use Rattle.wire.specs.Fit.{IsName, IsU16, IsU64, All, TimeoutFits, TimeoutProper, Fits, Proper}
-use Rattle.wire.proofs.Lengths.{length-timeout}
-use Rattle.wire.proofs.Tables.{bytes-encode}
+use Rattle.wire.specs.Fit.{All}
 use Rattle.certificate.specs.declared.Certificate.{Certificate}
 use Rattle.certificate.specs.declared.Locks.{Locks}
-use Rattle.certificate.specs.Rank.{highest, adopted, carriedCertificate}
-use Rattle.certificate.specs.Order.{kept, carriedIn}
-use Rattle.certificate.specs.Safe.{safeCertificate}
-use Rattle.certificate.proofs.Adopting.{adopted-has, highest-has, kinds-kept, highest-new, highest-adopted}
+use Rattle.certificate.specs.Rank.{adopted}
+use Rattle.certificate.specs.Order.{kept}
+use Rattle.certificate.proofs.Adopting.{adopted-has, kinds-kept, highest-new, highest-adopted}
 use Rattle.blocks.specs.declared.Block.{Block}
-use Rattle.blocks.specs.Store.{held, descends, ancestry, releases, dropped}
-use Rattle.blocks.proofs.Kept.{dropped-held}
-use Rattle.blocks.proofs.Linked.{In}
-use Rattle.memory.specs.Layout.{memoryLength, entryRoom, entryPlace, entryLengthOf, entryOf, blockCountOf, settingsOf, ownOf, withBlockCount, withEntry}
+use Rattle.blocks.specs.Store.{releases}
+use Rattle.memory.specs.Layout.{memoryLength, entryRoom, entryPlace, entryLengthOf, entryOf, blockCountOf, withEntry}
 use Rattle.memory.specs.Kept.{keep}
 use Rattle.memory.specs.Window.{entered}
 use Rattle.memory.proofs.Apart.{Table, votes, commits, timeouts, rowOf, widthOf}
-use Rattle.memory.proofs.Header.{SameHeader, same-header, keep-head, count-put, count-settings, count-own, count-entry, entry-put, entry-block-count}
+use Rattle.memory.proofs.Header.{SameHeader, same-header, keep-head, entry-put, entry-block-count}
 use Rattle.memory.proofs.Entering.{Windowed, entered-head, length-entered}
 use Rattle.counters.specs.declared.Counters.{Counters}
-use Rattle.counters.specs.declared.Signed.{Signed}
-use Rattle.counters.specs.Counters.{certificateOf, signedOf, locksOf, withLocks, adopting, entering, timing, voting, releasing}
-use Rattle.safety.specs.Rank.{Cert, _⊑_, blockOf}
-use Rattle.safety.specs.Cluster.{Direct, Good, Progress}
+use Rattle.counters.specs.Counters.{certificateOf, signedOf, locksOf, withLocks, adopting, entering, releasing}
+use Rattle.safety.specs.Rank.{_⊑_}
 use Rattle.safety.specs.Cluster as Cluster
 use Rattle.safety.specs.Certificates.{cert}
 use Rattle.safety.specs.Certificates as Seen
-use Rattle.safety.specs.Select.{Fine}
-use Rattle.safety.specs.Rows.{firsts}
 use Rattle.safety.specs.Run.{Read, is-vote, is-commit, is-timeout, is-release, is-other, released}
-use Rattle.safety.specs.Match.{Silent, Matches, no-act, an-act}
-use Rattle.safety.specs.Trace.{Act, quiet, does}
+use Rattle.safety.specs.Match.{no-act}
+use Rattle.safety.specs.Trace.{quiet}
 use Rattle.safety.specs.Trace as Trace
 use Rattle.safety.proofs.Rank.{⊑-refl}
 use Rattle.safety.proofs.Certificates.{admissible}
 use Rattle.safety.proofs.Certificates as Cands
-use Rattle.protocol.specs.Work.{Work, view, settings, n, own, viewNow, timed, highView, tip, blocks, heldBlock, withMemory, withCounters, send, keepVote, keepCommit, keepTimeout, adopt, enterBy, hold, sendVote, sendCommit, ownTimeout, sendTimeout, release}
-use Rattle.protocol.specs.Typed.{CertificateTyped, BlockTyped}
-use Rattle.protocol.specs.Refusals.{storeLength}
-use Rattle.protocol.specs.OneChain.{readOf, reads}
+use Rattle.protocol.specs.Work.{Work, view, settings, n, own, viewNow, timed, tip, blocks, withMemory, send, keepVote, keepCommit, keepTimeout, adopt, enterBy, release}
+use Rattle.protocol.specs.Typed.{CertificateTyped}
+use Rattle.protocol.specs.OneChain.{reads}
 use Rattle.protocol.proofs.Typing.{all-append}
-use Rattle.protocol.proofs.Regular.{Regular, Still, keep-regular, send-regular, adopt-regular, enter-regular}
-use Rattle.protocol.proofs.Holding.{tag, HoldsIn, keep-holds, other-holds, entry-holds, count-holds, entered-holds}
-use Rattle.protocol.proofs.World.{Name, World, R, size, Sent, traced, rowIn, VoteGround, Acted, Standing, Entry, Certified, VoteKept, CommitKept, TimeoutKept, Tables, ParentHeld, Chained, Real}
-use Rattle.protocol.proofs.Records.{reads-encode, certificate-form, certificate-bytes, form-short}
-use Rattle.protocol.proofs.Chain.{held-chained, pairs, released-chained}
+use Rattle.protocol.proofs.Regular.{Regular, keep-regular, send-regular, adopt-regular, enter-regular}
+use Rattle.protocol.proofs.Holding.{keep-holds, other-holds, entry-holds, entered-holds}
+use Rattle.protocol.proofs.World.{Name, World, size, Sent, traced, rowIn, Standing, Entry, Certified, VoteKept, CommitKept, TimeoutKept, Tables, Chained, Real}
+use Rattle.protocol.proofs.Records.{certificate-form, certificate-bytes, form-short}
 
 -- ---- the row of releases in a list of records
 abbrev pub rowOne : Read Name → List (Name × ℕ)

@@ -1,28 +1,27 @@
 -- Holding a block and releasing one keep the invariant `Real`. Assumes nothing.
-use Prim.Native.Nat.{ℕ, zero, suc, _+_, _^_, _≤_, _<_}
+use Prim.Native.Nat.{ℕ, zero, suc, _+_, _≤_, _<_}
 use mathlib.Core.Bool.{Bool, true, false, cond}
-use mathlib.Core.List.{List, [], _∷_, _++_, map, append-assoc, append-nil}
-use mathlib.Core.Logic.{_⊎_, inl, inr, ⊎-elim}
-use mathlib.Core.Path.{_≡_, refl, sym, ap, subst, _∙_}
+use mathlib.Core.List.{List, [], _∷_, _++_, map, append-nil}
+use mathlib.Core.Logic.{inl, inr}
+use mathlib.Core.Path.{_≡_, refl, ap, _∙_}
 use native.Mathlib.Omega.{arith}
 use lib.ListN.{length, take, length-take}
 use lib.ListN.{set as set-at}
 use lib.Seq.{take-suc-set, append-snoc}
 use Rattle.settings.specs.declared.Settings.{Settings}
 use Rattle.settings.specs.Quorum.{lastView, lastHeight}
-use Rattle.wire.specs.Encode.{releaseBytes, encode, joined}
+use Rattle.wire.specs.Encode.{releaseBytes, encode}
 use Rattle.wire.specs.Content.{Content}
 use Rattle.wire.specs.Content as Content
 use Rattle.wire.specs.Fit.{All, Fits}
 use Rattle.blocks.specs.declared.Block.{Block}
-use Rattle.blocks.specs.Store.{held, descends, ancestry, releases, kept, dropped}
+use Rattle.blocks.specs.Store.{held, descends, ancestry, releases, kept}
 use Rattle.blocks.proofs.Kept.{dropped-held}
 use Rattle.blocks.proofs.Fewer.{kept-within}
 use Rattle.blocks.proofs.Linked.{In, AllIn, ancestry-last}
-use Rattle.memory.specs.Layout.{entryOf, blockCountOf, settingsOf, ownOf, withBlockCount}
+use Rattle.memory.specs.Layout.{blockCountOf, withBlockCount}
 use Rattle.memory.proofs.Apart.{votes, commits, timeouts}
 use Rattle.memory.proofs.Header.{count-put, count-settings, count-own, count-entry}
-use Rattle.counters.specs.declared.Counters.{Counters}
 use Rattle.counters.specs.Counters.{locksOf, releasing}
 use Rattle.safety.specs.Cluster.{Direct}
 use Rattle.safety.specs.Run.{is-release}
@@ -30,15 +29,15 @@ use Rattle.safety.specs.Match.{Matches, no-act}
 use Rattle.safety.specs.Trace.{Act, quiet}
 use Rattle.safety.specs.Trace as Trace
 use Rattle.safety.proofs.Rank.{⊑-refl}
-use Rattle.protocol.specs.Work.{Work, n, own, viewNow, tip, blocks, heldBlock, hold, release}
+use Rattle.protocol.specs.Work.{Work, own, viewNow, tip, blocks, heldBlock, hold, release}
 use Rattle.protocol.specs.Typed.{BlockTyped}
 use Rattle.protocol.specs.Refusals.{storeLength}
 use Rattle.protocol.specs.OneChain.{reads}
 use Rattle.protocol.proofs.Typing.{all-append}
-use Rattle.protocol.proofs.Regular.{Regular, Still, hold-regular}
+use Rattle.protocol.proofs.Regular.{Regular, hold-regular}
 use Rattle.protocol.proofs.Actions.{release-regular}
 use Rattle.protocol.proofs.Holding.{count-holds}
-use Rattle.protocol.proofs.World.{Name, World, R, size, Sent, traced, rowIn, Acted, VoteKept, CommitKept, TimeoutKept, Tables, ParentHeld, Chained, Real}
+use Rattle.protocol.proofs.World.{Name, World, R, size, Sent, traced, rowIn, VoteKept, CommitKept, TimeoutKept, Tables, ParentHeld, Real}
 use Rattle.protocol.proofs.Records.{reads-encode}
 use Rattle.protocol.proofs.Steps.{row-cons, row-append, all-one, few}
 use Rattle.protocol.proofs.Chain.{held-chained, pairs, released-chained}

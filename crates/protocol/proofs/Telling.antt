@@ -1,11 +1,11 @@
 -- What accepted records say of honest replicas (`Says`), and what that makes of the certificates and timeouts in them: they are good in the run. Assumes nothing.
-use Prim.Native.Nat.{ℕ, zero, suc, _+_, _^_, _≤_, _<_}
+use Prim.Native.Nat.{ℕ, zero, suc, _^_, _≤_, _<_}
 use mathlib.Core.Bool.{Bool, true, false, cond, _&&_}
-use mathlib.Core.List.{List, [], _∷_, _++_, map}
-use mathlib.Core.Logic.{_⊎_, inl, inr, ⊎-elim}
+use mathlib.Core.List.{List, [], _∷_, map}
+use mathlib.Core.Logic.{_⊎_, inl, ⊎-elim}
 use mathlib.Core.Path.{_≡_, refl, sym, ap, subst, _∙_}
 use native.Mathlib.Omega.{arith}
-use borrow.Author.Tests.{leb-true, ltb-true}
+use borrow.Author.Tests.{leb-true}
 use lib.Dec.{T, leb, ltb}
 use lib.ListN.{length}
 use Rattle.settings.specs.declared.Settings.{Settings}
@@ -20,8 +20,7 @@ use Rattle.wire.proofs.Tables.{stands-encode}
 use Rattle.wire.proofs.Contents.{certificate-back, timeout-stands, slots-stand}
 use Rattle.wire.proofs.ReadBack.{read-written}
 use Rattle.certificate.specs.Rank.{blockCertificate, carriedCertificate}
-use Rattle.certificate.specs.Order.{carriedIn}
-use Rattle.certificate.specs.Good.{isGood, timeoutGood, all, progressGood}
+use Rattle.certificate.specs.Good.{timeoutGood, all, progressGood}
 use Rattle.certificate.specs.Safe.{signs, safeCertificate}
 use Rattle.certificate.proofs.Goods.{all-true}
 use Rattle.safety.specs.Cluster.{Good, HighVoted}
@@ -29,14 +28,14 @@ use Rattle.safety.specs.Certificates.{cert}
 use Rattle.safety.specs.Certificates as Safety
 use Rattle.safety.specs.Select.{Fine}
 use Rattle.safety.proofs.Certificates.{held}
-use Rattle.safety.proofs.Signers.{SignedTruly, good, fine}
+use Rattle.safety.proofs.Signers.{good, fine}
 use Rattle.protocol.specs.Work.{Work}
 use Rattle.protocol.specs.Refusals.{viewOfProgress}
 use Rattle.protocol.specs.OneChain.{votesOf, timeoutSays, timeoutsSay, certificateSays}
 use Rattle.protocol.proofs.World.{Name, World, R, size}
 use Rattle.protocol.proofs.Forms.{fits-typed}
 use Rattle.protocol.proofs.Going.{all-left, all-right, TakenAt}
-use Rattle.protocol.proofs.Formed.{is-true, Timeouts, timeouts-taken}
+use Rattle.protocol.proofs.Formed.{timeouts-taken}
 
 -- ---- a record of replica j that is in the run says what j did
 abbrev pub ToldAs : World → ℕ → Content → Type 0

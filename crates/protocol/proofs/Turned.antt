@@ -1,37 +1,37 @@
 -- One turn of the rules keeps the invariant, and so does their run. Assumes nothing.
-use Prim.Native.Nat.{ℕ, suc, _+_, _^_, _≤_, _<_}
+use Prim.Native.Nat.{ℕ, _+_, _^_, _≤_, _<_}
 use mathlib.Core.Bool.{Bool, true, false}
 use mathlib.Core.List.{List, [], _∷_, _++_, map, append-assoc}
-use mathlib.Core.Logic.{_⊎_, inl, inr}
+use mathlib.Core.Logic.{_⊎_}
 use mathlib.Core.Path.{_≡_, refl, sym, ap, subst, _∙_}
 use native.Mathlib.Omega.{arith}
 use Rattle.settings.specs.declared.Settings.{Settings}
-use Rattle.settings.specs.Quorum.{lastView, largest, replicas, timeoutQuorum, blockQuorum, fastQuorum, slowQuorum}
+use Rattle.settings.specs.Quorum.{lastView, replicas, timeoutQuorum, blockQuorum, fastQuorum, slowQuorum}
 use Rattle.codec.specs.Names.{sameBytes}
 use Rattle.codec.proofs.Order.{same-eq}
 use Rattle.wire.specs.Encode.{timeoutBytes, blockCertificateBytes, encode, joined, releaseBytes}
 use Rattle.wire.specs.Content.{certificateOf, timeout}
 use Rattle.wire.specs.Fields.{timeoutLength}
-use Rattle.wire.specs.Fit.{IsName, All, CertificateFits, Fits}
+use Rattle.wire.specs.Fit.{All, CertificateFits, Fits}
 use Rattle.wire.proofs.Facts.{Framed}
 use Rattle.blocks.specs.declared.Block.{Block}
 use Rattle.blocks.specs.Store.{held, ancestry, releases}
-use Rattle.blocks.proofs.Linked.{In, held-in, ancestry-last}
+use Rattle.blocks.proofs.Linked.{held-in, ancestry-last}
 use Rattle.memory.specs.Layout.{voteRow, commitRow, timeoutRow}
 use Rattle.memory.specs.Kept.{keptCount, gathered, tally}
 use Rattle.memory.proofs.Rows.{gathered-le}
 use Rattle.memory.specs.Formed.{formed}
-use Rattle.memory.proofs.Apart.{votes, commits, timeouts, row-fits}
+use Rattle.memory.proofs.Apart.{timeouts, row-fits}
 use Rattle.memory.proofs.Entering.{Windowed}
 use Rattle.counters.specs.Counters.{timing, releasing}
 use Rattle.safety.specs.Certificates as Safety
 use Rattle.safety.specs.Cluster.{HighVoted, Direct}
-use Rattle.protocol.specs.Work.{Work, settings, n, own, viewNow, timed, tip, blocks, heldBlock, keepTimeout, ownTimeout, sendTimeout, release}
+use Rattle.protocol.specs.Work.{Work, n, own, viewNow, timed, tip, blocks, heldBlock, keepTimeout, ownTimeout, sendTimeout, release}
 use Rattle.protocol.specs.Typed.{BlockTyped}
 use Rattle.protocol.specs.Refusals.{viewOfProgress}
 use Rattle.protocol.specs.Events.{progress}
 use Rattle.protocol.specs.Rules.{settle}
-use Rattle.protocol.specs.Applies.{AppliesA, AppliesB, AppliesC, AppliesD, runA, runB, runC, runD, signersFor, Turn, byA, byB, byC, byD, Turns, rest, turn}
+use Rattle.protocol.specs.Applies.{AppliesA, AppliesB, AppliesC, AppliesD, runA, runD, signersFor, Turn, byA, byB, byC, byD, Turns, rest, turn}
 use Rattle.protocol.proofs.Typing.{all-append}
 use Rattle.protocol.proofs.Regular.{Regular}
 use Rattle.protocol.proofs.Actions.{own-timeout-fits}

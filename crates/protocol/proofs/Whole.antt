@@ -1,12 +1,11 @@
 -- What a call writes is a row of whole records, from every state that an opening and calls left; and what holds of one replica on any input, with no premise on
 -- records. Assumes nothing.
-use Prim.Native.Nat.{ℕ, _<_}
-use mathlib.Core.Bool.{Bool, true, false}
+use Prim.Native.Nat.{ℕ}
+use mathlib.Core.Bool.{true, false}
 use mathlib.Core.List.{List, [], _∷_, _++_, append-nil}
 use mathlib.Core.Logic.{_⊎_, inl, inr}
 use mathlib.Core.Path.{_≡_, refl, sym, ap, subst, _∙_}
-use lib.Dec.{T}
-use lib.ListN.{length, take, drop}
+use lib.ListN.{length, drop}
 use lib.Seq.{take-append-seam}
 use Rattle.settings.specs.declared.Settings.{Settings}
 use Rattle.settings.specs.Answer.{Answer, accepts, refuses}
@@ -27,10 +26,9 @@ use Rattle.protocol.specs.OneCall.{Call, CallTyped, callOn, left, Handin
 use Rattle.protocol.specs.Whole.{ZeroCommit, WholeRecord}
 use Rattle.protocol.specs.OneChain.{calls, written, stepSays, stepGives, Opened}
 use Rattle.protocol.proofs.OneCall.{coreOf, call-is}
-use Rattle.protocol.proofs.World.{World, R, size, Passes, Sent}
+use Rattle.protocol.proofs.World.{World, R, Passes, Sent}
 use Rattle.protocol.proofs.Chain.{stored-descends}
 use Rattle.protocol.proofs.Going.{ShownAs, Shown, all-right}
-use Rattle.protocol.proofs.Telling.{Told, Says}
 use Rattle.protocol.proofs.Calling.{core-sound}
 use Rattle.protocol.proofs.Keeping.{Keeping, forget-out, opened-keeping}
 

@@ -1,7 +1,7 @@
 -- The invariant of one replica (`Real`): what is true of its state and of the records that it made, in a world that says what honest replicas did. In the
 -- world of a run it is what demand 3 needs; in the world where every claim is true, it is what holds of a replica on any input. It stands
 -- apart from the rules of refusal 2. Assumes nothing.
-use Prim.Native.Nat.{ℕ, suc, _+_, _^_, _≤_, _<_}
+use Prim.Native.Nat.{ℕ, suc, _^_, _≤_, _<_}
 use mathlib.Core.Bool.{Bool, true, false}
 use mathlib.Core.Logic.{_⊎_}
 use mathlib.Core.List.{List, []}
@@ -13,7 +13,7 @@ use Rattle.settings.specs.Quorum.{replicas, lastView, lastHeight}
 use Rattle.codec.specs.Names.{zeroName}
 use Rattle.wire.specs.declared.Timeout.{Timeout}
 use Rattle.wire.specs.Encode.{timeoutBytes, certificateBytes, encode}
-use Rattle.wire.specs.Content.{byBlock, byTimeouts, Content, vote, commit, certificate, timeout, proposal, block, release}
+use Rattle.wire.specs.Content.{Content, vote, commit, certificate, timeout, proposal, block, release}
 use Rattle.wire.specs.Fit.{All, TimeoutFits, TimeoutProper, CertificateFits, CertificateProper, Fits, Proper}
 use Rattle.certificate.specs.declared.Certificate.{Certificate}
 use Rattle.certificate.specs.Rank.{highest}

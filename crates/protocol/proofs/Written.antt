@@ -5,26 +5,24 @@ use mathlib.Core.Path.{_≡_, refl}
 use mathlib.Core.Bool.{Bool, true, false, cond, _&&_}
 use mathlib.Core.Logic.{inl, inr}
 use mathlib.Core.List.{List}
-use lib.Dec.{leb, ltb}
+use lib.Dec.{leb}
 use lib.ListN.{length, length-append}
-use Rattle.settings.specs.Quorum.{largest, lastView, timeoutQuorum}
+use Rattle.settings.specs.Quorum.{largest, lastView}
 use Rattle.codec.specs.Bytes.{leBytes}
 use Rattle.codec.proofs.Laws.{length-patch}
 use Rattle.codec.proofs.Order.{and-true}
 use Rattle.wire.specs.Fields.{kindOf, voteLength, blockCertificateLength, timeoutLength}
 use Rattle.wire.specs.Content.{Certificate, byBlock, byTimeouts, certificateOf}
-use Rattle.wire.specs.Encode.{voteBytes, timeoutBytes}
+use Rattle.wire.specs.Encode.{timeoutBytes}
 use Rattle.wire.specs.Fit.{IsName, IsU64, CertificateFits}
 use Rattle.wire.proofs.Lengths.{length-vote, length-timeout}
 use Rattle.certificate.specs.Rank.{blockCertificate, outranks}
 use Rattle.certificate.specs.declared.Certificate.{Certificate as Adoptable}
-use Rattle.certificate.specs.Safe.{safeCertificate}
 use Rattle.blocks.specs.declared.Block.{Block}
-use Rattle.memory.specs.Layout.{entryRoom, timeoutRow}
-use Rattle.memory.specs.Kept.{keptCount}
+use Rattle.memory.specs.Layout.{entryRoom}
 use Rattle.memory.specs.Decided.{noChoice, nextDecided}
 use Rattle.counters.specs.Counters.{locksOf}
-use Rattle.protocol.specs.Work.{commitRecord, voteRecord, Work, settings, n, own, viewNow, timed, heldBlock, send, keepVote, keepCommit, keepTimeout, adopt, enterBy, hold, sendVote, sendCommit, ownTimeout, sendTimeout}
+use Rattle.protocol.specs.Work.{commitRecord, voteRecord, Work, n, own, viewNow, heldBlock, send, keepVote, keepCommit, keepTimeout, adopt, enterBy, hold, sendVote, sendCommit, ownTimeout, sendTimeout}
 use Rattle.protocol.specs.Refusals.{viewOfProgress}
 use Rattle.protocol.specs.Events.{mayCommit, safeIn, withSender, commitAfter, progress}
 use Rattle.protocol.specs.Rules.{testA, testB, ruleA, ruleB, ruleC, enoughVotes, formedBlock}
