@@ -1,16 +1,15 @@
 -- The walk from parent to parent: it does not depend on the bound of its steps where that is at least the height, and one step of it. Assumes nothing.
-use mathlib.Core.Path.{_≡_, refl, sym, _∙_, ap, subst}
+use mathlib.Core.Path.{_≡_, refl, sym, _∙_, ap}
 use Prim.Native.Nat.{ℕ, zero, suc, _+_, _<_, _≤_}
 use native.Mathlib.Omega.{arith}
 use mathlib.Core.Bool.{Bool, true, false, cond, not, _&&_}
 use mathlib.Core.List.{List, [], _∷_, _++_}
-use lib.Dec.{ltb, T as Holds}
+use lib.Dec.{T as Holds}
 use borrow.Author.Tests.{ltb-true, le-ltb}
 use Rattle.codec.specs.Names.{sameBytes}
 use Rattle.blocks.specs.Store.{held, below, leads, descends, line, ancestry}
 use Rattle.blocks.specs.Steps.{onwardOf}
 use Rattle.blocks.specs.declared.Block.{Block}
-use Rattle.blocks.specs.declared.Found.{Found}
 
 pub never : {X : Type 0} → false ≡ true → X
 never e = absurd (let z : _≡_ {A = ℕ} 0 1 = cc in omega arith)

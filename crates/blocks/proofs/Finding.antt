@@ -1,9 +1,9 @@
 -- Search, one entry at a time, from behind. Assumes nothing.
 use mathlib.Core.Path.{_≡_, refl, sym, _∙_, ap}
-use Prim.Native.Nat.{ℕ, suc, _+_, _-_, _<_, _≤_}
+use Prim.Native.Nat.{ℕ, suc, _-_, _<_, _≤_}
 use native.Mathlib.Omega.{arith}
 use mathlib.Core.Bool.{Bool, true, false, cond}
-use mathlib.Core.List.{List, [], _∷_}
+use mathlib.Core.List.{List}
 use lib.ListN.{length, take, drop, getD, drop-of-length-le}
 use lib.Dec.{ltb}
 use lib.Seq.{length-take-le, take-all, drop-cons, getD-take}
@@ -11,7 +11,6 @@ use borrow.Author.Tests.{ltb-true, ltb-false}
 use Rattle.codec.specs.Names.{sameBytes}
 use Rattle.blocks.specs.Store.{genesis, found, missing, find}
 use Rattle.blocks.specs.declared.Block.{Block}
-use Rattle.blocks.specs.declared.Found.{Found}
 
 -- one entry more, at place i - 1
 pub find-back : (x : List ℕ) (l : List Block) (n i : ℕ) → 0 < i → i ≤ n → n ≤ length l

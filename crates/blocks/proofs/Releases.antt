@@ -1,12 +1,9 @@
 -- The releases of a row of blocks, one record more. Assumes nothing.
-use mathlib.Core.Path.{_≡_, refl, sym, _∙_, ap}
+use mathlib.Core.Path.{_≡_, sym, _∙_, ap}
 use Prim.Native.Nat.{ℕ, _+_, _*_}
 use native.Mathlib.Omega.{arith}
 use mathlib.Core.List.{List, [], _∷_, _++_, append-nil, append-assoc}
 use lib.ListN.{length, length-append}
-use denote.Laws.{Is}
-use denote.Builtin.{u8}
-use denote.Array.{Array}
 use Rattle.walks.proofs.Data.{At, bytes}
 use Rattle.codec.specs.Bytes.{patch}
 use Rattle.codec.proofs.Laws.{patch-nil, patch-append}

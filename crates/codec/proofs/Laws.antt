@@ -1,13 +1,12 @@
 -- The laws of `part` and `patch`, for any width. Assumes nothing.
-use mathlib.Core.Path.{_≡_, refl, sym, ap, _∙_, subst}
-use mathlib.Core.Logic.{_≢_}
+use mathlib.Core.Path.{_≡_, refl, sym, ap, _∙_}
 use mathlib.Core.List.{List, [], _∷_, _++_}
 use Prim.Native.Nat.{ℕ, zero, suc, _+_, _-_, _≤_, _<_}
 use native.Mathlib.Numerals.{add-one}
-use native.Mathlib.Nat.{add-zero, add-suc, suc-add, add-sub-cancel-left, add-sub-of-le, min-eq-left}
+use native.Mathlib.Nat.{add-zero, add-suc, add-sub-cancel-left, add-sub-of-le}
 use native.Mathlib.Omega.{arith}
-use lib.ListN.{length, take, drop, getD, set, length-set, length-take, length-drop, take-append-drop, replicate}
-use lib.Seq.{drop-cons, take-suc, getD-set-same, getD-set-other, drop-set-lt, drop-set-add, take-set-le, ext-getD, getD-drop, getD-take, set-comm, set-set, set-getD, length-take-le, take-all, drop-drop}
+use lib.ListN.{length, take, drop, getD, set, length-set, length-drop, replicate}
+use lib.Seq.{drop-cons, getD-set-same, getD-set-other, drop-set-lt, drop-set-add, take-set-le, ext-getD, getD-drop, getD-take, set-comm, set-set, set-getD, length-take-le, take-all, drop-drop}
 use mathlib.Core.Bool.{Bool, true, false, _||_}
 use mathlib.Core.Logic.{⊎-elim, _⊎_, inl, inr}
 use borrow.Author.Tests.{leb-true}

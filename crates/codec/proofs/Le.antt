@@ -1,15 +1,14 @@
 -- The laws of little-endian bytes, over the byte count. Assumes nothing.
-use mathlib.Core.Path.{_≡_, refl, sym, ap, ap₂, _∙_, subst}
+use mathlib.Core.Path.{_≡_, refl, ap, ap₂, _∙_}
 use mathlib.Core.List.{List, [], _∷_}
-use Prim.Native.Nat.{ℕ, zero, suc, _+_, _*_, _-_, _/_, _%_, _^_, _≤_, _<_, zero-le}
+use Prim.Native.Nat.{ℕ, zero, suc, _+_, _*_, _-_, _/_, _%_, _^_, _≤_, _<_}
 use native.Mathlib.Numerals.{add-one}
-use native.Mathlib.Nat.{lt-of-lt-of-le, pow-le-pow-right, mod-lt, pow-suc, div-add-mod', zero-lt-suc}
+use native.Mathlib.Nat.{lt-of-lt-of-le, pow-le-pow-right, pow-suc}
 use native.Mathlib.Omega.{arith}
 use lib.ListN.{length, take, drop, getD, length-take}
 use lib.Seq.{drop-cons, getD-drop}
 use lib.Dec.{lit<}
 use lib.ListN.{set}
-use native.Mathlib.Nat.{add-suc}
 use Rattle.codec.specs.Bytes.{IsBytes, leNat, leBytes, part, patch}
 
 pub bytes-drop : (n : ℕ) (s : List ℕ) → IsBytes s → IsBytes (drop n s)

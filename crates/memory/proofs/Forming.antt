@@ -1,10 +1,10 @@
 -- Choosing among the names of a row, and the timeout certificate formed of a row, as the code goes. Assumes nothing.
-use mathlib.Core.Path.{_≡_, refl, sym, ap, ap₂, _∙_}
+use mathlib.Core.Path.{_≡_, sym, ap, ap₂, _∙_}
 use mathlib.Core.List.{List, _++_, append-assoc}
-use Prim.Native.Nat.{ℕ, _+_, _-_, _≤_}
+use Prim.Native.Nat.{ℕ, _+_, _-_}
 use native.Mathlib.Numerals.{add-one}
 use native.Mathlib.Omega.{arith}
-use lib.ListN.{length, length-append}
+use lib.ListN.{length}
 use Rattle.codec.specs.Bytes.{patch}
 use Rattle.codec.proofs.Laws.{patch-append, patch-comm}
 use Rattle.wire.specs.Encode.{timeoutsBytes, timeoutsHeadBytes}

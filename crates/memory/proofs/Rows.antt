@@ -1,7 +1,7 @@
 -- Laws of a row: counting its entries and gathering them. Assumes nothing.
-use mathlib.Core.Path.{_≡_, refl, sym, ap, ap₂, subst, _∙_}
+use mathlib.Core.Path.{_≡_, refl, sym, ap, ap₂, _∙_}
 use mathlib.Core.Bool.{Bool, true, false, cond}
-use mathlib.Core.List.{List, [], _∷_, _++_, append-nil, append-assoc}
+use mathlib.Core.List.{List, [], _++_, append-nil, append-assoc}
 use Prim.Native.Nat.{ℕ, zero, suc, _+_, _-_, _*_, _^_, _≤_, _<_}
 use native.Mathlib.Nat.{pow-suc, add-zero, mul-suc}
 use native.Mathlib.Numerals.{add-one}
@@ -11,7 +11,6 @@ use lib.ListN.{length, take, drop, length-append}
 use Rattle.codec.specs.Bytes.{patch}
 use Rattle.codec.proofs.Laws.{length-part, part-lent, patch-nil, patch-append}
 use Rattle.memory.specs.declared.kept.Tally.{Tally}
-use Rattle.memory.specs.Layout.{rowSize}
 use Rattle.memory.specs.Kept.{entryAt, has, kept, gathered, backs, tallied, tally}
 use Rattle.memory.proofs.Places.{entry-inside}
 

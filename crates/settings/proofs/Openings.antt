@@ -1,15 +1,15 @@
 -- When an opening is accepted and when it is refused, in facts instead of tests. Assumes nothing.
-use mathlib.Core.Path.{_≡_, refl, sym, ap, _∙_}
+use mathlib.Core.Path.{_≡_, refl}
 use mathlib.Core.Bool.{Bool, true, false, not, cond}
-use mathlib.Core.List.{List, [], _∷_}
+use mathlib.Core.List.{[], _∷_}
 use Prim.Native.Nat.{ℕ, _+_, _*_, _-_, _%_, _≤_, _<_}
 use native.Mathlib.Omega.{arith}
-use borrow.Author.Tests.{lt-ltb, le-ltb, eq-eqb, ne-eqb, le-leb, lt-leb, eqb-true, eqb-false, ltb-false, leb-true, leb-false}
+use borrow.Author.Tests.{le-ltb, eq-eqb, le-leb, lt-leb, eqb-true, eqb-false, ltb-false, leb-true, leb-false}
 use lib.Dec.{eqb, ltb, leb}
 use Rattle.settings.specs.declared.Settings.{Settings}
-use Rattle.settings.specs.Answer.{Answer, accepts, refuses, judge, _⇒_}
-use Rattle.settings.specs.Quorum.{largest, replicas}
-use Rattle.settings.specs.Opening.{opening, openingRules, inBound}
+use Rattle.settings.specs.Answer.{accepts, refuses, judge, _⇒_}
+use Rattle.settings.specs.Quorum.{largest}
+use Rattle.settings.specs.Opening.{opening, openingRules}
 
 -- what is asked of k, by c's parity
 pub room : (c : ℕ) → cond (eqb (c % 2) 0) 4 3 ≡ 4 - c % 2

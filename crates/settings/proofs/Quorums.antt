@@ -1,5 +1,5 @@
 -- The inequalities between the quorums on which safety rests, for all f, c, k with no bound on k. Assumes nothing.
-use Prim.Native.Nat.{ℕ, _+_, _*_, _≤_, _<_}
+use Prim.Native.Nat.{_+_, _*_, _≤_, _<_}
 use native.Mathlib.Omega.{arith}
 use Rattle.settings.specs.declared.Settings.{Settings}
 use Rattle.settings.specs.Quorum.{replicas, slack, blockQuorum, weakQuorum, timeoutQuorum, slowQuorum, fastQuorum}

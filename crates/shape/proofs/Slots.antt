@@ -1,8 +1,8 @@
 -- What a loop of tests over the timeouts inside a timeout certificate finds at one of them, and at its end. Assumes nothing.
-use mathlib.Core.Path.{_≡_, refl, sym, ap, _∙_}
+use mathlib.Core.Path.{_≡_}
 use mathlib.Core.Bool.{Bool, true, false}
-use mathlib.Core.List.{List, [], _∷_}
-use Prim.Native.Nat.{ℕ, zero, suc, _+_, _*_, _-_, _≤_, _<_}
+use mathlib.Core.List.{List}
+use Prim.Native.Nat.{ℕ, suc, _+_, _-_, _≤_, _<_}
 use Rattle.wire.specs.Fields.{senderOf}
 use Rattle.wire.proofs.Turns.{slot, slotsFrom, slots-turn, slots-end}
 use Rattle.wire.specs.Shape.{any, slotValueBad, slotsValueBad}

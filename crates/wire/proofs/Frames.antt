@@ -1,13 +1,13 @@
 -- What the place "shape" leaves of a slice that passes: how long it is, by kind. Assumes nothing.
-use mathlib.Core.Path.{_≡_, refl, sym, ap, _∙_}
-use mathlib.Core.Bool.{Bool, true, false, not, cond, _||_, true≢false, false≢true}
+use mathlib.Core.Path.{_≡_, refl}
+use mathlib.Core.Bool.{Bool, true, false, not, cond, _||_, true≢false}
 use mathlib.Core.List.{List}
-use Prim.Native.Nat.{ℕ, _+_, _*_, _-_, _≤_, _<_}
+use Prim.Native.Nat.{ℕ, _+_, _*_, _-_, _≤_}
 use native.Mathlib.Omega.{arith}
 use borrow.Author.Tests.{ltb-false, eqb-true, ne-eqb}
 use lib.Dec.{eqb, ltb}
-use lib.ListN.{length, drop, length-drop}
-use Rattle.wire.specs.Fields.{lengthOf, kindOf, countOf, progressOf, slots}
+use lib.ListN.{length, length-drop}
+use Rattle.wire.specs.Fields.{kindOf, countOf, progressOf, slots}
 use Rattle.wire.specs.Shape.{any, frameBad, timeoutsLength, certificateLength, progressLength, kindLength, badLength, slotKindBad, certificateKindBad, badKind}
 
 -- neither of two tests passes

@@ -1,10 +1,9 @@
 -- A record that is written field by field: what stands in the region after each store. Assumes nothing.
-use mathlib.Core.Path.{_≡_, refl, sym, ap, _∙_}
+use mathlib.Core.Path.{_≡_, sym, ap, _∙_}
 use mathlib.Core.List.{List, _++_}
 use Prim.Native.Nat.{ℕ, _+_}
-use native.Mathlib.Nat.{add-assoc}
 use lib.ListN.{length, length-append}
-use Rattle.codec.specs.Bytes.{patch, leBytes}
+use Rattle.codec.specs.Bytes.{patch}
 use Rattle.codec.proofs.Laws.{patch-append}
 
 -- t is s with the k bytes v at place at

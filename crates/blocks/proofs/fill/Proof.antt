@@ -1,6 +1,6 @@
 -- `blocks::fill` meets its contract: a walk of its MIR, by hand, with a branch: past the end nothing is stored. Both arms forget the locals and come to `tail`. Assumes nothing.
-use Rattle.walks.proofs.Walk.{_≡_, refl, sym, _∙_, ap, subst, ℕ, zero, suc, _<_, _≤_, _^_, _*_, arith, [], _∷_, List, length, set, length-set, ltb→lt, nltb→le, URA, fullShare, Ty, Body, mut, named, w64, tyPtr, tyInt, tyBool, tyUnit, tyRef, Val, vunit, vint, vptr, SProp, ent, emp, via, fst∗, GName, Lft, Share, ftrue, fat, froom, fdies, flft, Memory, Routine, Heap, Env, Calls, Loops, WpFn, Tables, Atoms, Fun, givenOf, tables, tablesOf}
-use Rattle.walks.proofs.Walk.{Given, Item, ‵, _⊛_, Sq, runs, atRet, _$_, _∵_, !, qed, move, keep, drop, split, join, rewrite, fsplit, fjoin, feqI, suffices, frame, done, look, init, store-raw, forget, stop, hop, fld, from, load, lit, unit-lit, of-opd, bin, assigns, assigns-last, first, skips, branches, exec, returns, enter, alloc1, alloc0, params1, pass1, pass0, free1, free0, whole, sub, look-in, WpFn-mono}
+use Rattle.walks.proofs.Walk.{_≡_, refl, sym, ap, subst, ℕ, _<_, _^_, _*_, arith, [], _∷_, List, length, set, length-set, ltb→lt, nltb→le, URA, fullShare, Ty, Body, mut, named, w64, tyPtr, tyInt, tyBool, tyUnit, tyRef, Val, vunit, vint, vptr, SProp, ent, emp, via, fst∗, GName, Lft, Share, ftrue, fat, froom, fdies, flft, Memory, Routine, Heap, Env, Calls, Loops, WpFn, Tables, Atoms, Fun, givenOf, tables, tablesOf}
+use Rattle.walks.proofs.Walk.{Given, ‵, _⊛_, Sq, runs, atRet, _$_, _∵_, !, qed, move, drop, split, join, rewrite, fsplit, fjoin, feqI, suffices, frame, done, look, init, store-raw, forget, stop, hop, fld, from, load, lit, unit-lit, of-opd, bin, assigns, assigns-last, first, skips, branches, exec, returns, enter, alloc1, alloc0, params1, pass1, pass0, free1, free0, whole, sub, look-in, WpFn-mono}
 use Rattle.walks.proofs.Walk.{owns, pureI, pointee, Is, shows, uint-vals, uint-tells, usize, sliceTy, sliceVal, MutSlice, Room, slice-vals, mut-slice-tells, at-slice, place-is, elem-out, elem-put, opens-slice, closes-slice, plain, owned, nothing, onEntry, Meets, tripleOf, entered, says, Stays, stay-dropped, stay-slice, walkOf, AllGo, goes-dropped, goes-slice, Walks, ends-at, walked, walk-meets, yes}
 use Rattle.walks.proofs.Walk.LL
 use Rattle.walks.proofs.After.{after}

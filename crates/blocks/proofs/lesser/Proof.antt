@@ -1,11 +1,7 @@
 -- `blocks::lesser` meets its contract: by the one test. Assumes nothing.
 use borrow.Author.Tests.{lt-ltb, le-ltb}
-use borrow.Author.Needs.{needs}
-use native.Mathlib.Omega.{arith}
 use Rattle.blocks.proofs.lesser.Statement.{statement}
 use Rattle.blocks.proofs.lesser.Tie as tie
-use Rattle.blocks.proofs.lesser.Reads as reads
-use Rattle.blocks.proofs.lesser.Lts as lts
 
 returns : tie.Need-returns
 returns c = rw (lt-ltb _ _ (c .if1 .taken))

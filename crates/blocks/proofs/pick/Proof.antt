@@ -1,11 +1,8 @@
 -- `blocks::pick` meets its contract: by the one test. Assumes nothing.
 use mathlib.Core.Path.{sym, _∙_}
 use borrow.Author.Needs.{needs}
-use native.Mathlib.Omega.{arith}
 use Rattle.blocks.proofs.pick.Statement.{statement}
 use Rattle.blocks.proofs.pick.Tie as tie
-use Rattle.blocks.proofs.pick.Reads as reads
-use Rattle.blocks.proofs.pick.Lts as lts
 use Rattle.codec.proofs.name.same.Reads as same-reads
 
 same-requires : tie.Need-same-requires

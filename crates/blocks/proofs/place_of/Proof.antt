@@ -1,10 +1,7 @@
 -- `blocks::place_of` meets its contract: by the one test. Assumes nothing.
 use borrow.Author.Needs.{needs}
-use native.Mathlib.Omega.{arith}
 use Rattle.blocks.proofs.place_of.Statement.{statement}
 use Rattle.blocks.proofs.place_of.Tie as tie
-use Rattle.blocks.proofs.place_of.Reads as reads
-use Rattle.blocks.proofs.place_of.Lts as lts
 
 add-t4 : tie.Need-add-t4
 add-t4 c = search needs

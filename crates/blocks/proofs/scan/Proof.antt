@@ -2,9 +2,9 @@
 -- The loop's context is `I t`, at a t of the type X: the index, what was found behind it, its relation, that the index is at most n, and that it is what a search behind the index finds. The index falls.
 -- Assumes nothing.
 use Rattle.walks.proofs.Walk.{_≡_, refl, sym, _∙_, ap, ℕ, _<_, _≤_, _^_, _-_, arith, [], _∷_, List, WellFounded, InvImage·wf, Nat·lt-wfRel, ltb→lt, nltb→le, length, getD, URA, fullShare, Ty, Body, loop, named, imm, w8, w64, tyInt, tyBool, tyArray, tyRef, Val, vint, SProp, ent, id⊢, GName, Lft, Share, ftrue, fat, froom, fdies, flft, Memory, Routine, Heap, Out, Env, Calls, Loops, Wp, WpFn, Tables, afterSeq, afterBlock, afterTurn, atReturn, Atoms, Fun, givenOf, tables, tablesOf}
-use Rattle.walks.proofs.Walk.{Given, Item, ‵, raw, _⊛_, Sq, PostOf, anyQ, atRet, runs, _$_, _∵_, !, qed, move, keep, drop, use1, split, rewrite, fsplit, look, init, store, forget, stop, from, load, lit, of-opd, bin, and-then, no-more, assigns, land-last, first, skips, jumps, blocks, branches, returns, exec, loops, again, Below, enter, alloc1, alloc0, params1, pass1, pass0, FmC, fmOf, WpFn-mono}
-use Rattle.walks.proofs.Walk.{owns, Is, pointee, u8, u64, usize, Array, ArrayOf, sliceTy, sliceVal, ShrSlice, Room, slice-vals, shr-slice-tells, shr-slice-copy, plain, shrSliceOf, only, onEntry, Meets, tripleOf, Contract, Triple, calls-at, calls-at-last, entered, cited, needs, Stays, stay-dropped, walkOf, AllGo, goes-dropped, Walks, walked, walk-meets, yes}
-use Rattle.walks.proofs.Data.{At, fits, word, bytes, again as at-value}
+use Rattle.walks.proofs.Walk.{Given, Item, ‵, _⊛_, Sq, PostOf, anyQ, atRet, runs, _$_, _∵_, !, qed, move, keep, drop, use1, split, rewrite, fsplit, look, init, store, forget, stop, from, load, lit, of-opd, bin, and-then, no-more, assigns, land-last, first, skips, jumps, blocks, branches, returns, exec, loops, again, Below, enter, alloc1, alloc0, params1, pass1, pass0, FmC, fmOf, WpFn-mono}
+use Rattle.walks.proofs.Walk.{owns, Is, pointee, u8, u64, Array, ArrayOf, sliceTy, sliceVal, ShrSlice, Room, slice-vals, shr-slice-tells, shr-slice-copy, plain, shrSliceOf, only, onEntry, Meets, tripleOf, Contract, Triple, calls-at, calls-at-last, entered, cited, needs, Stays, stay-dropped, walkOf, AllGo, goes-dropped, Walks, walked, walk-meets, yes}
+use Rattle.walks.proofs.Data.{fits, word, bytes, again as at-value}
 use Rattle.walks.proofs.Calls.{end, held, made, so, of, asks, came, full, empty, leave, ends}
 use Rattle.walks.proofs.After.{after}
 use Rattle.walks.proofs.Lent.{lying, Shr, returned}

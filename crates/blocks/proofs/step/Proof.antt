@@ -1,11 +1,8 @@
 -- `blocks::step` meets its contract: by the two tests. Assumes nothing.
 use mathlib.Core.Path.{sym, _∙_}
 use borrow.Author.Needs.{needs}
-use native.Mathlib.Omega.{arith}
 use Rattle.blocks.proofs.step.Statement.{statement}
 use Rattle.blocks.proofs.step.Tie as tie
-use Rattle.blocks.proofs.step.Reads as reads
-use Rattle.blocks.proofs.step.Lts as lts
 use Rattle.codec.proofs.name.same.Reads as same-reads
 
 same-requires : tie.Need-same-requires

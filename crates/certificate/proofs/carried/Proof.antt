@@ -1,11 +1,7 @@
-use mathlib.Core.Path.{_≡_, refl, sym, ap, _∙_}
+use mathlib.Core.Path.{refl}
 use Rattle.certificate.specs.Rank.{carriedCertificate}
-use borrow.Author.Needs.{needs}
-use native.Mathlib.Omega.{arith}
 use Rattle.certificate.proofs.carried.Statement.{statement}
 use Rattle.certificate.proofs.carried.Tie as tie
-use Rattle.certificate.proofs.carried.Reads as reads
-use Rattle.certificate.proofs.carried.Lts as lts
 
 returns : tie.Need-returns
 unfolding carriedCertificate

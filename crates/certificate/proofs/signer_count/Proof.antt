@@ -1,12 +1,8 @@
-use mathlib.Core.Path.{_≡_, refl, sym, ap, _∙_}
 use lib.Count.{ones-le}
 use Rattle.certificate.proofs.Signers.{count-ones}
-use borrow.Author.Needs.{needs}
 use native.Mathlib.Omega.{arith}
 use Rattle.certificate.proofs.signer_count.Statement.{statement}
 use Rattle.certificate.proofs.signer_count.Tie as tie
-use Rattle.certificate.proofs.signer_count.Reads as reads
-use Rattle.certificate.proofs.signer_count.Lts as lts
 
 cast-result : tie.Need-cast-result
 cast-result c = record { fits = omega (arith, ones-le 64 (c .args .signers) (c .fits .signers .fits)) }

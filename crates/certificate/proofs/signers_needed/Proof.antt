@@ -1,11 +1,7 @@
-use mathlib.Core.Path.{_≡_, refl, sym, ap, _∙_}
 use Rattle.certificate.specs.Good.{signersNeeded}
 use borrow.Author.Needs.{needs}
-use native.Mathlib.Omega.{arith}
 use Rattle.certificate.proofs.signers_needed.Statement.{statement}
 use Rattle.certificate.proofs.signers_needed.Tie as tie
-use Rattle.certificate.proofs.signers_needed.Reads as reads
-use Rattle.certificate.proofs.signers_needed.Lts as lts
 use Rattle.settings.proofs.Settings.block_quorum.Reads as block-quorum-reads
 use Rattle.settings.proofs.Settings.weak_quorum.Reads as weak-quorum-reads
 

@@ -8,8 +8,6 @@ use borrow.Author.Needs.{needs}
 use native.Mathlib.Omega.{arith}
 use Rattle.codec.proofs.clear.Statement.{statement}
 use Rattle.codec.proofs.clear.Tie as tie
-use Rattle.codec.proofs.clear.Reads as reads
-use Rattle.codec.proofs.clear.Lts as lts
 
 abbrev Inv-loop : tie.InvT-loop
 Inv-loop mem₀ at n i₀ mem i =

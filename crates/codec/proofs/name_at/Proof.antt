@@ -1,13 +1,10 @@
 use lib.ListN.{length}
 use mathlib.Core.Path.{ap, _∙_}
-use Rattle.codec.specs.Bytes.{part}
 use Rattle.codec.proofs.Laws.{part-lent, length-part, patch-whole}
 use borrow.Author.Needs.{needs}
 use native.Mathlib.Omega.{arith}
 use Rattle.codec.proofs.name_at.Statement.{statement}
 use Rattle.codec.proofs.name_at.Tie as tie
-use Rattle.codec.proofs.name_at.Reads as reads
-use Rattle.codec.proofs.name_at.Lts as lts
 use Rattle.codec.proofs.put.Reads as put-reads
 
 slice-aggregate-put : tie.Need-slice-aggregate-put

@@ -8,8 +8,6 @@ use borrow.Author.Needs.{needs}
 use native.Mathlib.Omega.{arith}
 use Rattle.codec.proofs.put.Statement.{statement}
 use Rattle.codec.proofs.put.Tie as tie
-use Rattle.codec.proofs.put.Reads as reads
-use Rattle.codec.proofs.put.Lts as lts
 
 abbrev Inv-loop : tie.InvT-loop
 Inv-loop mem₀ at v i₀ mem i = (i ≤ length v) × ((length mem ≡ length mem₀) × (patch mem (at + i) (drop i v) ≡ patch mem₀ at v))

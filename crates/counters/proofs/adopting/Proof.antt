@@ -1,11 +1,7 @@
-use mathlib.Core.Path.{_≡_, refl, sym, ap, subst, _∙_}
 use Rattle.counters.specs.Counters.{adopting}
 use borrow.Author.Needs.{needs}
-use native.Mathlib.Omega.{arith}
 use Rattle.counters.proofs.adopting.Statement.{statement}
 use Rattle.counters.proofs.adopting.Tie as tie
-use Rattle.counters.proofs.adopting.Reads as reads
-use Rattle.counters.proofs.adopting.Lts as lts
 use Rattle.certificate.proofs.Certificate.adopt.Reads as adopt-reads
 use Rattle.counters.proofs.locks.Reads as locks-reads
 use Rattle.counters.proofs.with_locks.Reads as with-locks-reads

@@ -1,11 +1,7 @@
-use mathlib.Core.Path.{_≡_, refl, sym, ap, subst, _∙_}
 use Rattle.counters.specs.Counters.{locksOf}
 use borrow.Author.Needs.{needs}
-use native.Mathlib.Omega.{arith}
 use Rattle.counters.proofs.locks.Statement.{statement}
 use Rattle.counters.proofs.locks.Tie as tie
-use Rattle.counters.proofs.locks.Reads as reads
-use Rattle.counters.proofs.locks.Lts as lts
 use Rattle.counters.proofs.certificate_of.Reads as certificate-of-reads
 
 certificate-of-requires : tie.Need-certificate-of-requires

@@ -1,11 +1,7 @@
-use mathlib.Core.Path.{_≡_, refl, sym, ap, subst, _∙_}
+use mathlib.Core.Path.{refl}
 use Rattle.counters.specs.Counters.{signedOf}
-use borrow.Author.Needs.{needs}
-use native.Mathlib.Omega.{arith}
 use Rattle.counters.proofs.signed_of.Statement.{statement}
 use Rattle.counters.proofs.signed_of.Tie as tie
-use Rattle.counters.proofs.signed_of.Reads as reads
-use Rattle.counters.proofs.signed_of.Lts as lts
 
 returns : tie.Need-returns
 unfolding signedOf

@@ -1,11 +1,7 @@
-use mathlib.Core.Path.{_≡_, refl, sym, ap, subst, _∙_}
 use Rattle.counters.specs.Counters.{withLocks}
 use borrow.Author.Needs.{needs}
-use native.Mathlib.Omega.{arith}
 use Rattle.counters.proofs.with_locks.Statement.{statement}
 use Rattle.counters.proofs.with_locks.Tie as tie
-use Rattle.counters.proofs.with_locks.Reads as reads
-use Rattle.counters.proofs.with_locks.Lts as lts
 use Rattle.counters.proofs.signed_of.Reads as signed-of-reads
 
 signed-of-requires : tie.Need-signed-of-requires

@@ -1,11 +1,7 @@
-use mathlib.Core.Path.{_≡_, refl, sym, ap, _∙_}
 use Rattle.memory.specs.Layout.{blockCountOf}
 use borrow.Author.Needs.{needs}
-use native.Mathlib.Omega.{arith}
 use Rattle.memory.proofs.block_count.Statement.{statement}
 use Rattle.memory.proofs.block_count.Tie as tie
-use Rattle.memory.proofs.block_count.Reads as reads
-use Rattle.memory.proofs.block_count.Lts as lts
 use Rattle.codec.proofs.num.u16_at.Reads as u16-at-reads
 
 u16-at-requires : tie.Need-u16-at-requires

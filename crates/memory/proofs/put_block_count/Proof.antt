@@ -1,11 +1,7 @@
-use mathlib.Core.Path.{_≡_, refl, sym, ap, _∙_}
 use Rattle.memory.specs.Layout.{withBlockCount}
 use borrow.Author.Needs.{needs}
-use native.Mathlib.Omega.{arith}
 use Rattle.memory.proofs.put_block_count.Statement.{statement}
 use Rattle.memory.proofs.put_block_count.Tie as tie
-use Rattle.memory.proofs.put_block_count.Reads as reads
-use Rattle.memory.proofs.put_block_count.Lts as lts
 use Rattle.codec.proofs.num.put_u16.Reads as put-u16-reads
 
 put-u16-requires : tie.Need-put-u16-requires

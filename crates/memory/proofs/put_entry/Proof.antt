@@ -1,11 +1,7 @@
-use mathlib.Core.Path.{_≡_, refl, sym, ap, _∙_}
 use Rattle.memory.specs.Layout.{withEntry}
 use borrow.Author.Needs.{needs}
-use native.Mathlib.Omega.{arith}
 use Rattle.memory.proofs.put_entry.Statement.{statement}
 use Rattle.memory.proofs.put_entry.Tie as tie
-use Rattle.memory.proofs.put_entry.Reads as reads
-use Rattle.memory.proofs.put_entry.Lts as lts
 use Rattle.codec.proofs.num.put_u16.Reads as put-u16-reads
 use Rattle.codec.proofs.put.Reads as put-reads
 

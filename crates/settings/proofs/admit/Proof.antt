@@ -1,5 +1,5 @@
 -- `settings::admit` meets its contract: each test that refuses shows that the numbers are unfit, and past the last one they are fit.
-use mathlib.Core.Path.{_≡_, sym, _∙_}
+use mathlib.Core.Path.{_≡_, sym}
 use Rattle.settings.specs.declared.Admission.the-variants.{Admitted, Refused}
 use Rattle.settings.specs.Opening.{admission, opening}
 use Rattle.settings.proofs.Openings.{Fit, fit-accepts, unfit-refuses}
@@ -7,8 +7,6 @@ use borrow.Author.Needs.{needs}
 use native.Mathlib.Omega.{arith}
 use Rattle.settings.proofs.admit.Statement.{statement}
 use Rattle.settings.proofs.admit.Tie as tie
-use Rattle.settings.proofs.admit.Reads as reads
-use Rattle.settings.proofs.admit.Lts as lts
 use Rattle.settings.proofs.Settings.n.Reads as n-reads
 
 -- the answers in terms of the arguments

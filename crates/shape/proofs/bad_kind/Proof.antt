@@ -1,19 +1,16 @@
-use mathlib.Core.Path.{_≡_, refl, sym, subst, _∙_}
+use mathlib.Core.Path.{_≡_, sym, subst, _∙_}
 use mathlib.Core.List.{List}
 use mathlib.Core.Bool.{false}
 use Prim.Native.Nat.{ℕ, _≤_}
 use lib.ListN.{length}
 use borrow.Author.Tests.{ne-eqb}
 use Rattle.codec.proofs.Laws.{part-rest}
-use Rattle.wire.specs.Fields.{kindOf, progressOf}
 use Rattle.wire.specs.Shape.{badKind, certificateLength}
 use Rattle.wire.proofs.Frames.{whole-header, whole-timeout, whole-inner, whole-proposal, inner-length, whole-certificate}
 use borrow.Author.Needs.{needs}
 use native.Mathlib.Omega.{arith}
 use Rattle.shape.proofs.bad_kind.Statement.{statement}
 use Rattle.shape.proofs.bad_kind.Tie as tie
-use Rattle.shape.proofs.bad_kind.Reads as reads
-use Rattle.shape.proofs.bad_kind.Lts as lts
 use Rattle.codec.proofs.num.u16_at.Reads as u16-at-reads
 use Rattle.shape.proofs.carried_kind_bad.Reads as carried-kind-bad-reads
 use Rattle.shape.proofs.certificate_kind_bad.Reads as certificate-kind-bad-reads

@@ -1,12 +1,9 @@
-use mathlib.Core.Path.{_≡_, refl, sym, _∙_}
+use mathlib.Core.Path.{sym, _∙_}
 use Rattle.wire.specs.Shape.{badLength}
 use Rattle.wire.proofs.Frames.{frame-header}
 use borrow.Author.Needs.{needs}
-use native.Mathlib.Omega.{arith}
 use Rattle.shape.proofs.bad_length.Statement.{statement}
 use Rattle.shape.proofs.bad_length.Tie as tie
-use Rattle.shape.proofs.bad_length.Reads as reads
-use Rattle.shape.proofs.bad_length.Lts as lts
 use Rattle.shape.proofs.frame_bad.Reads as frame-bad-reads
 use Rattle.shape.proofs.kind_length_bad.Reads as kind-length-bad-reads
 

@@ -1,4 +1,4 @@
-use mathlib.Core.Path.{_≡_, refl, sym, _∙_}
+use mathlib.Core.Path.{sym, _∙_}
 use borrow.Author.Tests.{ne-eqb}
 use Rattle.wire.specs.Shape.{badValue}
 use Rattle.wire.proofs.Frames.{whole-header, whole-vote, whole-commit, whole-timeout, whole-block, whole-proposal, inner-length, whole-certificate, inner-kind, certificate-kind}
@@ -6,8 +6,6 @@ use borrow.Author.Needs.{needs}
 use native.Mathlib.Omega.{arith}
 use Rattle.shape.proofs.bad_value.Statement.{statement}
 use Rattle.shape.proofs.bad_value.Tie as tie
-use Rattle.shape.proofs.bad_value.Reads as reads
-use Rattle.shape.proofs.bad_value.Lts as lts
 use Rattle.codec.proofs.name.is_zero.Reads as is-zero-reads
 use Rattle.codec.proofs.name_at.Reads as name-at-reads
 use Rattle.codec.proofs.num.u16_at.Reads as u16-at-reads

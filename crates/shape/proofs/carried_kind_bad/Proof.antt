@@ -1,12 +1,8 @@
-use mathlib.Core.Path.{_≡_, refl, sym, _∙_}
 use borrow.Author.Tests.{ne-eqb}
 use Rattle.wire.specs.Shape.{carriedKindBad}
 use borrow.Author.Needs.{needs}
-use native.Mathlib.Omega.{arith}
 use Rattle.shape.proofs.carried_kind_bad.Statement.{statement}
 use Rattle.shape.proofs.carried_kind_bad.Tie as tie
-use Rattle.shape.proofs.carried_kind_bad.Reads as reads
-use Rattle.shape.proofs.carried_kind_bad.Lts as lts
 use Rattle.codec.proofs.num.u16_at.Reads as u16-at-reads
 
 u16-at-requires : tie.Need-u16-at-requires

@@ -1,4 +1,4 @@
-use mathlib.Core.Path.{_≡_, refl, sym, _∙_}
+use mathlib.Core.Path.{sym, _∙_}
 use borrow.Author.Tests.{ne-eqb}
 use Rattle.wire.specs.Shape.{certificateKindBad}
 use Rattle.wire.proofs.Frames.{certificate-timeouts}
@@ -6,8 +6,6 @@ use borrow.Author.Needs.{needs}
 use native.Mathlib.Omega.{arith}
 use Rattle.shape.proofs.certificate_kind_bad.Statement.{statement}
 use Rattle.shape.proofs.certificate_kind_bad.Tie as tie
-use Rattle.shape.proofs.certificate_kind_bad.Reads as reads
-use Rattle.shape.proofs.certificate_kind_bad.Lts as lts
 use Rattle.codec.proofs.num.u16_at.Reads as u16-at-reads
 use Rattle.shape.proofs.slots_kind_bad.Reads as slots-kind-bad-reads
 

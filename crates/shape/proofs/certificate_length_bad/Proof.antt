@@ -1,12 +1,8 @@
-use mathlib.Core.Path.{_≡_, refl, sym, _∙_}
 use borrow.Author.Tests.{ne-eqb}
 use Rattle.wire.specs.Shape.{certificateLength}
 use borrow.Author.Needs.{needs}
-use native.Mathlib.Omega.{arith}
 use Rattle.shape.proofs.certificate_length_bad.Statement.{statement}
 use Rattle.shape.proofs.certificate_length_bad.Tie as tie
-use Rattle.shape.proofs.certificate_length_bad.Reads as reads
-use Rattle.shape.proofs.certificate_length_bad.Lts as lts
 use Rattle.codec.proofs.num.u16_at.Reads as u16-at-reads
 use Rattle.shape.proofs.timeouts_length_bad.Reads as timeouts-length-bad-reads
 

@@ -1,5 +1,5 @@
-use mathlib.Core.Path.{_≡_, refl, sym, _∙_}
-use Prim.Native.Nat.{_+_, _*_, _≤_}
+use mathlib.Core.Path.{_≡_, sym, _∙_}
+use Prim.Native.Nat.{_+_, _*_}
 use lib.ListN.{length}
 use borrow.Author.Tests.{ne-eqb, eq-eqb}
 use Rattle.wire.specs.Fields.{countOf}
@@ -9,8 +9,6 @@ use borrow.Author.Needs.{needs}
 use native.Mathlib.Omega.{arith}
 use Rattle.shape.proofs.certificate_value_bad.Statement.{statement}
 use Rattle.shape.proofs.certificate_value_bad.Tie as tie
-use Rattle.shape.proofs.certificate_value_bad.Reads as reads
-use Rattle.shape.proofs.certificate_value_bad.Lts as lts
 use Rattle.codec.proofs.num.le_at.Reads as le-at-reads
 use Rattle.codec.proofs.num.u16_at.Reads as u16-at-reads
 use Rattle.codec.proofs.num.u64_at.Reads as u64-at-reads

@@ -1,13 +1,10 @@
-use mathlib.Core.Path.{_≡_, refl, sym, _∙_}
+use mathlib.Core.Path.{sym, _∙_}
 use Rattle.settings.specs.Answer.{judge}
 use Rattle.wire.specs.Shape.{shapeOf}
 use Rattle.shape.specs.Verdict.{verdict}
 use borrow.Author.Needs.{needs}
-use native.Mathlib.Omega.{arith}
 use Rattle.shape.proofs.check.Statement.{statement}
 use Rattle.shape.proofs.check.Tie as tie
-use Rattle.shape.proofs.check.Reads as reads
-use Rattle.shape.proofs.check.Lts as lts
 use Rattle.shape.proofs.bad_kind.Reads as bad-kind-reads
 use Rattle.shape.proofs.bad_length.Reads as bad-length-reads
 use Rattle.shape.proofs.bad_value.Reads as bad-value-reads

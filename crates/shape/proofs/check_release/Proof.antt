@@ -1,4 +1,4 @@
-use mathlib.Core.Path.{_≡_, refl, sym, _∙_}
+use mathlib.Core.Path.{sym, _∙_}
 use borrow.Author.Tests.{ne-eqb, eq-eqb}
 use Rattle.settings.specs.Answer.{judge}
 use Rattle.wire.specs.Shape.{releaseShape}
@@ -8,8 +8,6 @@ use borrow.Author.Needs.{needs}
 use native.Mathlib.Omega.{arith}
 use Rattle.shape.proofs.check_release.Statement.{statement}
 use Rattle.shape.proofs.check_release.Tie as tie
-use Rattle.shape.proofs.check_release.Reads as reads
-use Rattle.shape.proofs.check_release.Lts as lts
 use Rattle.codec.proofs.num.u16_at.Reads as u16-at-reads
 use Rattle.shape.proofs.frame_bad.Reads as frame-bad-reads
 

@@ -1,12 +1,8 @@
-use mathlib.Core.Path.{_≡_, refl, sym, ap, _∙_}
 use borrow.Author.Tests.{lt-ltb, le-ltb}
 use Rattle.wire.specs.Shape.{frameBad}
 use borrow.Author.Needs.{needs}
-use native.Mathlib.Omega.{arith}
 use Rattle.shape.proofs.frame_bad.Statement.{statement}
 use Rattle.shape.proofs.frame_bad.Tie as tie
-use Rattle.shape.proofs.frame_bad.Reads as reads
-use Rattle.shape.proofs.frame_bad.Lts as lts
 use Rattle.codec.proofs.num.u32_at.Reads as u32-at-reads
 
 returns : tie.Need-returns

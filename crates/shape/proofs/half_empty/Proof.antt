@@ -1,13 +1,10 @@
-use mathlib.Core.Path.{_≡_, refl, sym, _∙_}
+use mathlib.Core.Path.{_≡_, refl}
 use mathlib.Core.Bool.{Bool, true, false, not, Bool·beq}
 use borrow.Author.Tests.{ne-eqb, eq-eqb}
 use Rattle.wire.specs.Shape.{halfEmpty}
 use borrow.Author.Needs.{needs}
-use native.Mathlib.Omega.{arith}
 use Rattle.shape.proofs.half_empty.Statement.{statement}
 use Rattle.shape.proofs.half_empty.Tie as tie
-use Rattle.shape.proofs.half_empty.Reads as reads
-use Rattle.shape.proofs.half_empty.Lts as lts
 use Rattle.codec.proofs.name.is_zero.Reads as is-zero-reads
 
 -- the comparison of two tests, by the first

@@ -1,15 +1,12 @@
-use mathlib.Core.Path.{_≡_, refl, sym, ap, _∙_}
-use borrow.Author.Tests.{lt-ltb, le-ltb}
+use borrow.Author.Tests.{lt-ltb}
 use Prim.Native.Nat.{_<_}
 use lib.ListN.{length, drop, length-drop}
 use Rattle.codec.proofs.Laws.{part-rest}
-use Rattle.wire.specs.Shape.{frameBad, progressLength, certificateLength}
+use Rattle.wire.specs.Shape.{frameBad, progressLength}
 use borrow.Author.Needs.{needs}
 use native.Mathlib.Omega.{arith}
 use Rattle.shape.proofs.progress_length_bad.Statement.{statement}
 use Rattle.shape.proofs.progress_length_bad.Tie as tie
-use Rattle.shape.proofs.progress_length_bad.Reads as reads
-use Rattle.shape.proofs.progress_length_bad.Lts as lts
 use Rattle.shape.proofs.certificate_length_bad.Reads as certificate-length-bad-reads
 use Rattle.shape.proofs.frame_bad.Reads as frame-bad-reads
 

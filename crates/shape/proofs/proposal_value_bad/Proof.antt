@@ -1,4 +1,4 @@
-use mathlib.Core.Path.{_≡_, refl, sym, subst, _∙_}
+use mathlib.Core.Path.{_≡_, sym, subst}
 use mathlib.Core.List.{List}
 use mathlib.Core.Bool.{false}
 use Prim.Native.Nat.{ℕ, _≤_}
@@ -9,8 +9,6 @@ use borrow.Author.Needs.{needs}
 use native.Mathlib.Omega.{arith}
 use Rattle.shape.proofs.proposal_value_bad.Statement.{statement}
 use Rattle.shape.proofs.proposal_value_bad.Tie as tie
-use Rattle.shape.proofs.proposal_value_bad.Reads as reads
-use Rattle.shape.proofs.proposal_value_bad.Lts as lts
 use Rattle.codec.proofs.name.is_zero.Reads as is-zero-reads
 use Rattle.codec.proofs.name_at.Reads as name-at-reads
 use Rattle.codec.proofs.num.u16_at.Reads as u16-at-reads

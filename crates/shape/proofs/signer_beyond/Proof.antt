@@ -1,16 +1,13 @@
 use Rattle.codec.proofs.Words.{shifted}
-use native.Mathlib.Omega.{arith}
-use Prim.Native.Nat.{ℕ, _*_, _%_, _^_, _≤_, _<_}
+use Prim.Native.Nat.{ℕ, _^_, _≤_, _<_}
 use native.Mathlib.Nat.{lt-of-lt-of-le, pow-le-pow-right}
 use lib.Dec.{lit<}
 use borrow.Author.Tests.{lt-leb}
-use mathlib.Core.Path.{_≡_, refl, sym, _∙_}
+use mathlib.Core.Path.{sym}
 use Rattle.wire.specs.Shape.{beyond}
 use borrow.Author.Needs.{needs}
 use Rattle.shape.proofs.signer_beyond.Statement.{statement}
 use Rattle.shape.proofs.signer_beyond.Tie as tie
-use Rattle.shape.proofs.signer_beyond.Reads as reads
-use Rattle.shape.proofs.signer_beyond.Lts as lts
 
 -- no number of 64 bits reaches 2^n from n = 64 on
 below-wide : (n x : ℕ) → 64 ≤ n → x < 2 ^ 64 → x < 2 ^ n

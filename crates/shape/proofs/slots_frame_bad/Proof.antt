@@ -1,7 +1,7 @@
 use Rattle.wire.proofs.Turns.{slotsFrom}
-use mathlib.Core.Path.{_≡_, refl, sym, ap, _∙_}
-use Prim.Native.Nat.{_+_, _*_, _-_, _≤_}
-use lib.ListN.{length, drop}
+use mathlib.Core.Path.{_≡_, sym, _∙_}
+use Prim.Native.Nat.{_-_, _≤_}
+use lib.ListN.{drop}
 use native.Mathlib.Nat.{sub-zero}
 use Rattle.wire.specs.Fields.{cut}
 use Rattle.wire.specs.Shape.{any, frameBad}
@@ -10,8 +10,6 @@ use borrow.Author.Needs.{needs}
 use native.Mathlib.Omega.{arith}
 use Rattle.shape.proofs.slots_frame_bad.Statement.{statement}
 use Rattle.shape.proofs.slots_frame_bad.Tie as tie
-use Rattle.shape.proofs.slots_frame_bad.Reads as reads
-use Rattle.shape.proofs.slots_frame_bad.Lts as lts
 use Rattle.shape.proofs.frame_bad.Reads as frame-bad-reads
 
 abbrev Inv-loop : tie.InvT-loop

@@ -1,9 +1,9 @@
 use Rattle.wire.proofs.Turns.{slotsFrom}
-use mathlib.Core.Path.{_≡_, refl, sym, ap, _∙_}
-use Prim.Native.Nat.{ℕ, _+_, _*_, _-_, _≤_}
+use mathlib.Core.Path.{_≡_, sym, _∙_}
+use Prim.Native.Nat.{_-_, _≤_}
 use native.Mathlib.Nat.{sub-zero}
 use native.Mathlib.Numerals.{add-one}
-use lib.ListN.{length, drop}
+use lib.ListN.{drop}
 use Rattle.wire.specs.Fields.{cut}
 use Rattle.wire.specs.Shape.{slotsValueBad}
 use Rattle.shape.proofs.Slots.{value-here, value-later, value-none}
@@ -11,8 +11,6 @@ use borrow.Author.Needs.{needs}
 use native.Mathlib.Omega.{arith}
 use Rattle.shape.proofs.slots_value_bad.Statement.{statement}
 use Rattle.shape.proofs.slots_value_bad.Tie as tie
-use Rattle.shape.proofs.slots_value_bad.Reads as reads
-use Rattle.shape.proofs.slots_value_bad.Lts as lts
 use Rattle.codec.proofs.num.u16_at.Reads as u16-at-reads
 use Rattle.shape.proofs.slot_value_bad.Reads as slot-value-bad-reads
 

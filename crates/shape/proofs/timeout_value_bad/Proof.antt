@@ -1,12 +1,8 @@
-use mathlib.Core.Path.{_≡_, refl, sym, _∙_}
 use borrow.Author.Tests.{ne-eqb, eq-eqb}
 use Rattle.wire.specs.Shape.{timeoutValueBad}
 use borrow.Author.Needs.{needs}
-use native.Mathlib.Omega.{arith}
 use Rattle.shape.proofs.timeout_value_bad.Statement.{statement}
 use Rattle.shape.proofs.timeout_value_bad.Tie as tie
-use Rattle.shape.proofs.timeout_value_bad.Reads as reads
-use Rattle.shape.proofs.timeout_value_bad.Lts as lts
 use Rattle.codec.proofs.name_at.Reads as name-at-reads
 use Rattle.codec.proofs.num.le_at.Reads as le-at-reads
 use Rattle.codec.proofs.num.u64_at.Reads as u64-at-reads

@@ -1,11 +1,7 @@
-use mathlib.Core.Path.{_≡_, refl, sym, ap, _∙_}
 use Rattle.certificate.specs.Rank.{adopted}
 use borrow.Author.Needs.{needs}
-use native.Mathlib.Omega.{arith}
 use Rattle.certificate.proofs.Certificate.adopt.Statement.{statement}
 use Rattle.certificate.proofs.Certificate.adopt.Tie as tie
-use Rattle.certificate.proofs.Certificate.adopt.Reads as reads
-use Rattle.certificate.proofs.Certificate.adopt.Lts as lts
 use Rattle.certificate.proofs.Certificate.outranks.Reads as outranks-reads
 
 outranks-requires : tie.Need-outranks-requires

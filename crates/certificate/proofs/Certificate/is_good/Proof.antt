@@ -1,12 +1,8 @@
-use mathlib.Core.Path.{_≡_, refl, sym, ap, _∙_}
 use borrow.Author.Tests.{eq-eqb, ne-eqb}
 use Rattle.certificate.specs.Good.{isGood}
 use borrow.Author.Needs.{needs}
-use native.Mathlib.Omega.{arith}
 use Rattle.certificate.proofs.Certificate.is_good.Statement.{statement}
 use Rattle.certificate.proofs.Certificate.is_good.Tie as tie
-use Rattle.certificate.proofs.Certificate.is_good.Reads as reads
-use Rattle.certificate.proofs.Certificate.is_good.Lts as lts
 use Rattle.certificate.proofs.signer_count.Reads as signer-count-reads
 use Rattle.certificate.proofs.signers_needed.Reads as signers-needed-reads
 use Rattle.codec.proofs.name.is_zero.Reads as is-zero-reads

@@ -1,12 +1,8 @@
-use mathlib.Core.Path.{_≡_, refl, sym, ap, _∙_}
 use borrow.Author.Tests.{eq-eqb, ne-eqb}
 use Rattle.certificate.specs.Rank.{outranks}
 use borrow.Author.Needs.{needs}
-use native.Mathlib.Omega.{arith}
 use Rattle.certificate.proofs.Certificate.outranks.Statement.{statement}
 use Rattle.certificate.proofs.Certificate.outranks.Tie as tie
-use Rattle.certificate.proofs.Certificate.outranks.Reads as reads
-use Rattle.certificate.proofs.Certificate.outranks.Lts as lts
 use Rattle.codec.proofs.name.less.Reads as less-reads
 
 returns : tie.Need-returns

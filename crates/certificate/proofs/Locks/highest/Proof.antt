@@ -1,11 +1,7 @@
-use mathlib.Core.Path.{_≡_, refl, sym, ap, _∙_}
 use Rattle.certificate.specs.Rank.{highest}
 use borrow.Author.Needs.{needs}
-use native.Mathlib.Omega.{arith}
 use Rattle.certificate.proofs.Locks.highest.Statement.{statement}
 use Rattle.certificate.proofs.Locks.highest.Tie as tie
-use Rattle.certificate.proofs.Locks.highest.Reads as reads
-use Rattle.certificate.proofs.Locks.highest.Lts as lts
 use Rattle.certificate.proofs.Certificate.outranks.Reads as outranks-reads
 
 outranks-requires : tie.Need-outranks-requires

@@ -1,10 +1,9 @@
-use mathlib.Core.Path.{_≡_, refl, sym, ap, _∙_}
+use mathlib.Core.Path.{_≡_, sym, _∙_}
 use mathlib.Core.List.{map}
-use mathlib.Core.Bool.{not}
-use Prim.Native.Nat.{_+_, _*_, _-_, _≤_}
+use Prim.Native.Nat.{_-_, _≤_}
 use native.Mathlib.Nat.{sub-zero}
 use borrow.Author.Tests.{not-true, not-false}
-use lib.ListN.{length, drop}
+use lib.ListN.{drop}
 use Rattle.wire.specs.Fields.{cut}
 use Rattle.wire.specs.Content.{timeoutOf}
 use Rattle.wire.proofs.Turns.{timeoutsFrom}
@@ -14,8 +13,6 @@ use borrow.Author.Needs.{needs}
 use native.Mathlib.Omega.{arith}
 use Rattle.certificate.proofs.good.all_good.Statement.{statement}
 use Rattle.certificate.proofs.good.all_good.Tie as tie
-use Rattle.certificate.proofs.good.all_good.Reads as reads
-use Rattle.certificate.proofs.good.all_good.Lts as lts
 use Rattle.certificate.proofs.good.timeout_good.Reads as timeout-good-reads
 
 abbrev Inv-loop : tie.InvT-loop

@@ -1,12 +1,8 @@
-use mathlib.Core.Path.{_≡_, refl, sym, ap, _∙_}
 use Rattle.wire.specs.Content.{voteAt}
 use Rattle.certificate.specs.Rank.{blockCertificateOf}
 use borrow.Author.Needs.{needs}
-use native.Mathlib.Omega.{arith}
 use Rattle.certificate.proofs.good.block_certificate.Statement.{statement}
 use Rattle.certificate.proofs.good.block_certificate.Tie as tie
-use Rattle.certificate.proofs.good.block_certificate.Reads as reads
-use Rattle.certificate.proofs.good.block_certificate.Lts as lts
 use Rattle.codec.proofs.num.u64_at.Reads as u64-at-reads
 use Rattle.wire.proofs.read.vote.Reads as vote-reads
 

@@ -1,7 +1,7 @@
-use mathlib.Core.Path.{_≡_, refl, sym, ap, _∙_}
-use Prim.Native.Nat.{_+_, _*_, _≤_, _<_}
+use mathlib.Core.Path.{_≡_, sym, _∙_}
+use Prim.Native.Nat.{_+_, _*_, _<_}
 use lib.ListN.{length}
-use borrow.Author.Tests.{ne-eqb, eq-eqb, lt-ltb, le-ltb, lt-leb, le-leb}
+use borrow.Author.Tests.{ne-eqb, lt-ltb, lt-leb, le-leb}
 use Rattle.wire.specs.Fields.{countOf}
 use Rattle.wire.specs.Content.{certificateOf}
 use Rattle.wire.proofs.Frames.{certificate-block, certificate-timeouts, certificate-other}
@@ -12,8 +12,6 @@ use borrow.Author.Needs.{needs}
 use native.Mathlib.Omega.{arith}
 use Rattle.certificate.proofs.good.progress_good.Statement.{statement}
 use Rattle.certificate.proofs.good.progress_good.Tie as tie
-use Rattle.certificate.proofs.good.progress_good.Reads as reads
-use Rattle.certificate.proofs.good.progress_good.Lts as lts
 use Rattle.certificate.proofs.Certificate.is_good.Reads as is-good-reads
 use Rattle.certificate.proofs.good.all_good.Reads as all-good-reads
 use Rattle.certificate.proofs.good.block_certificate.Reads as block-certificate-reads

@@ -1,12 +1,8 @@
-use mathlib.Core.Path.{_≡_, refl, sym, ap, _∙_}
 use borrow.Author.Tests.{le-leb, lt-leb}
 use Rattle.certificate.specs.Good.{timeoutGood}
 use borrow.Author.Needs.{needs}
-use native.Mathlib.Omega.{arith}
 use Rattle.certificate.proofs.good.timeout_good.Statement.{statement}
 use Rattle.certificate.proofs.good.timeout_good.Tie as tie
-use Rattle.certificate.proofs.good.timeout_good.Reads as reads
-use Rattle.certificate.proofs.good.timeout_good.Lts as lts
 use Rattle.certificate.proofs.Certificate.is_good.Reads as is-good-reads
 use Rattle.certificate.proofs.carried.Reads as carried-reads
 use Rattle.wire.proofs.read.timeout.Reads as timeout-reads

@@ -1,12 +1,8 @@
-use mathlib.Core.Path.{_≡_, refl, sym, ap, subst, _∙_}
 use Rattle.wire.specs.Content.{timeoutOf}
 use Rattle.certificate.specs.Safe.{backedBy}
 use borrow.Author.Needs.{needs}
-use native.Mathlib.Omega.{arith}
 use Rattle.certificate.proofs.safe.backed_by.Statement.{statement}
 use Rattle.certificate.proofs.safe.backed_by.Tie as tie
-use Rattle.certificate.proofs.safe.backed_by.Reads as reads
-use Rattle.certificate.proofs.safe.backed_by.Lts as lts
 use Rattle.certificate.proofs.safe.gives.Reads as gives-reads
 use Rattle.certificate.proofs.safe.joins.Reads as joins-reads
 use Rattle.codec.proofs.num.u16_at.Reads as u16-at-reads

@@ -1,11 +1,7 @@
-use mathlib.Core.Path.{_≡_, refl, sym, ap, subst, _∙_}
 use Rattle.certificate.specs.Safe.{better}
 use borrow.Author.Needs.{needs}
-use native.Mathlib.Omega.{arith}
 use Rattle.certificate.proofs.safe.better.Statement.{statement}
 use Rattle.certificate.proofs.safe.better.Tie as tie
-use Rattle.certificate.proofs.safe.better.Reads as reads
-use Rattle.certificate.proofs.safe.better.Lts as lts
 use Rattle.certificate.proofs.Certificate.outranks.Reads as outranks-reads
 
 outranks-requires : tie.Need-outranks-requires

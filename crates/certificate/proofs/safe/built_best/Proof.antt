@@ -1,8 +1,8 @@
-use mathlib.Core.Path.{_≡_, refl, sym, ap, subst, _∙_}
+use mathlib.Core.Path.{_≡_, sym, _∙_}
 use mathlib.Core.List.{map}
-use Prim.Native.Nat.{ℕ, _+_, _*_, _-_, _≤_}
+use Prim.Native.Nat.{_-_, _≤_}
 use native.Mathlib.Nat.{sub-zero}
-use lib.ListN.{length, drop}
+use lib.ListN.{drop}
 use Rattle.wire.specs.Fields.{cut}
 use Rattle.wire.specs.Content.{timeoutOf}
 use Rattle.wire.proofs.Turns.{timeoutsFrom}
@@ -12,8 +12,6 @@ use borrow.Author.Needs.{needs}
 use native.Mathlib.Omega.{arith}
 use Rattle.certificate.proofs.safe.built_best.Statement.{statement}
 use Rattle.certificate.proofs.safe.built_best.Tie as tie
-use Rattle.certificate.proofs.safe.built_best.Reads as reads
-use Rattle.certificate.proofs.safe.built_best.Lts as lts
 use Rattle.certificate.proofs.safe.built_by.Reads as built-by-reads
 
 abbrev Inv-loop : tie.InvT-loop

@@ -1,11 +1,8 @@
-use mathlib.Core.Path.{_≡_, refl, sym, ap, subst, _∙_}
 use Rattle.certificate.proofs.Built.{built-none, built-few, built-made}
 use borrow.Author.Needs.{needs}
 use native.Mathlib.Omega.{arith}
 use Rattle.certificate.proofs.safe.built_by.Statement.{statement}
 use Rattle.certificate.proofs.safe.built_by.Tie as tie
-use Rattle.certificate.proofs.safe.built_by.Reads as reads
-use Rattle.certificate.proofs.safe.built_by.Lts as lts
 use Rattle.certificate.proofs.safe.better.Reads as better-reads
 use Rattle.certificate.proofs.safe.count_backing.Reads as count-backing-reads
 use Rattle.settings.proofs.Settings.weak_quorum.Reads as weak-quorum-reads

@@ -1,18 +1,12 @@
-use mathlib.Core.Path.{_≡_, refl, sym, ap, subst, _∙_}
-use mathlib.Core.List.{map}
-use Prim.Native.Nat.{ℕ, _+_, _*_, _-_, _≤_}
-use lib.ListN.{length, drop}
-use Rattle.wire.specs.Content.{timeoutOf}
+use mathlib.Core.Path.{_≡_, refl, sym, _∙_}
+use Prim.Native.Nat.{_-_, _≤_}
 use Rattle.wire.proofs.Turns.{timeoutsFrom}
-use Rattle.certificate.specs.declared.Certificate.{Certificate}
 use Rattle.certificate.specs.Safe.{each, carriedBy}
 use Rattle.certificate.proofs.Timeouts.{each-on, each-end}
 use borrow.Author.Needs.{needs}
 use native.Mathlib.Omega.{arith}
 use Rattle.certificate.proofs.safe.carried_best.Statement.{statement}
 use Rattle.certificate.proofs.safe.carried_best.Tie as tie
-use Rattle.certificate.proofs.safe.carried_best.Reads as reads
-use Rattle.certificate.proofs.safe.carried_best.Lts as lts
 use Rattle.certificate.proofs.carried.Reads as carried-reads
 use Rattle.certificate.proofs.safe.better.Reads as better-reads
 use Rattle.wire.proofs.read.timeout.Reads as timeout-reads

@@ -1,20 +1,17 @@
-use mathlib.Core.Path.{_≡_, refl, sym, ap, subst, _∙_}
+use mathlib.Core.Path.{_≡_, sym, _∙_}
 use mathlib.Core.List.{map}
-use Prim.Native.Nat.{ℕ, _+_, _*_, _-_, _≤_}
+use Prim.Native.Nat.{_-_, _≤_}
 use native.Mathlib.Nat.{sub-zero}
-use lib.ListN.{length, drop}
+use lib.ListN.{drop}
 use Rattle.wire.specs.Fields.{cut}
 use Rattle.wire.specs.Content.{timeoutOf}
 use Rattle.wire.proofs.Turns.{timeoutsFrom}
-use Rattle.certificate.specs.declared.safe.Backing.{Backing}
 use Rattle.certificate.specs.Safe.{each, backedBy, backing}
 use Rattle.certificate.proofs.Timeouts.{each-on, each-end, backed-count}
 use borrow.Author.Needs.{needs}
 use native.Mathlib.Omega.{arith}
 use Rattle.certificate.proofs.safe.count_backing.Statement.{statement}
 use Rattle.certificate.proofs.safe.count_backing.Tie as tie
-use Rattle.certificate.proofs.safe.count_backing.Reads as reads
-use Rattle.certificate.proofs.safe.count_backing.Lts as lts
 use Rattle.certificate.proofs.safe.backed_by.Reads as backed-by-reads
 
 abbrev Inv-loop : tie.InvT-loop

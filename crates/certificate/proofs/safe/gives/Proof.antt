@@ -1,14 +1,8 @@
 use Rattle.certificate.proofs.Timeouts.{gives-view, gives-not}
-use mathlib.Core.Path.{_≡_, refl, sym, ap, _∙_}
-use borrow.Author.Tests.{eq-eqb, ne-eqb}
-use Rattle.wire.specs.Content.{voteAt, timeoutOf}
-use Rattle.certificate.specs.Safe.{gives}
+use mathlib.Core.Path.{_∙_}
 use borrow.Author.Needs.{needs}
-use native.Mathlib.Omega.{arith}
 use Rattle.certificate.proofs.safe.gives.Statement.{statement}
 use Rattle.certificate.proofs.safe.gives.Tie as tie
-use Rattle.certificate.proofs.safe.gives.Reads as reads
-use Rattle.certificate.proofs.safe.gives.Lts as lts
 use Rattle.codec.proofs.name.same.Reads as same-reads
 use Rattle.wire.proofs.read.vote.Reads as vote-reads
 

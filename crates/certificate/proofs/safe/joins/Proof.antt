@@ -1,4 +1,4 @@
-use mathlib.Core.Path.{_≡_, refl, sym, ap, _∙_}
+use mathlib.Core.Path.{_≡_, sym, _∙_}
 use Prim.Native.Nat.{_<_}
 use mathlib.Core.Bool.{true, false}
 use borrow.Author.Tests.{lt-ltb, le-ltb, not-true, not-false}
@@ -9,8 +9,6 @@ use borrow.Author.Needs.{needs}
 use native.Mathlib.Omega.{arith}
 use Rattle.certificate.proofs.safe.joins.Statement.{statement}
 use Rattle.certificate.proofs.safe.joins.Tie as tie
-use Rattle.certificate.proofs.safe.joins.Reads as reads
-use Rattle.certificate.proofs.safe.joins.Lts as lts
 use Rattle.certificate.proofs.safe.signs.Reads as signs-reads
 
 signs-requires : tie.Need-signs-requires

@@ -1,4 +1,4 @@
-use mathlib.Core.Path.{_≡_, refl, sym, ap, subst, _∙_}
+use mathlib.Core.Path.{sym, _∙_}
 use Prim.Native.Nat.{_+_, _*_, _≤_}
 use lib.ListN.{length}
 use borrow.Author.Tests.{ne-eqb}
@@ -10,8 +10,6 @@ use borrow.Author.Needs.{needs}
 use native.Mathlib.Omega.{arith}
 use Rattle.certificate.proofs.safe.safe_certificate.Statement.{statement}
 use Rattle.certificate.proofs.safe.safe_certificate.Tie as tie
-use Rattle.certificate.proofs.safe.safe_certificate.Reads as reads
-use Rattle.certificate.proofs.safe.safe_certificate.Lts as lts
 use Rattle.certificate.proofs.good.block_certificate.Reads as block-certificate-reads
 use Rattle.certificate.proofs.safe.safe_of_timeouts.Reads as safe-of-timeouts-reads
 use Rattle.codec.proofs.num.u16_at.Reads as u16-at-reads

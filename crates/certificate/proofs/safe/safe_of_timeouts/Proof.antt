@@ -1,4 +1,3 @@
-use mathlib.Core.Path.{_≡_, refl, sym, ap, subst, _∙_}
 use Prim.Native.Nat.{_<_}
 use Rattle.wire.specs.Fields.{cut}
 use Rattle.certificate.specs.Safe.{safeOfTimeouts}
@@ -7,8 +6,6 @@ use borrow.Author.Needs.{needs}
 use native.Mathlib.Omega.{arith}
 use Rattle.certificate.proofs.safe.safe_of_timeouts.Statement.{statement}
 use Rattle.certificate.proofs.safe.safe_of_timeouts.Tie as tie
-use Rattle.certificate.proofs.safe.safe_of_timeouts.Reads as reads
-use Rattle.certificate.proofs.safe.safe_of_timeouts.Lts as lts
 use Rattle.certificate.proofs.carried.Reads as carried-reads
 use Rattle.certificate.proofs.safe.built_best.Reads as built-best-reads
 use Rattle.certificate.proofs.safe.carried_best.Reads as carried-best-reads

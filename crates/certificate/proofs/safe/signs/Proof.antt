@@ -1,11 +1,8 @@
-use mathlib.Core.Path.{_≡_, refl, sym, ap, _∙_}
+use mathlib.Core.Path.{refl}
 use Rattle.certificate.specs.Safe.{signs}
 use borrow.Author.Needs.{needs}
-use native.Mathlib.Omega.{arith}
 use Rattle.certificate.proofs.safe.signs.Statement.{statement}
 use Rattle.certificate.proofs.safe.signs.Tie as tie
-use Rattle.certificate.proofs.safe.signs.Reads as reads
-use Rattle.certificate.proofs.safe.signs.Lts as lts
 
 shr-result : tie.Need-shr-result
 shr-result c = search needs

@@ -1,5 +1,5 @@
 use mathlib.Core.Path.{_≡_, refl, sym, _∙_}
-use Prim.Native.Nat.{_+_, _-_, _≤_, _<_}
+use Prim.Native.Nat.{_-_, _≤_, _<_}
 use lib.ListN.{length, drop}
 use Rattle.codec.specs.Names.{lessBytes}
 use Rattle.codec.proofs.Order.{less-on, less-is, less-not, less-end}
@@ -7,8 +7,6 @@ use borrow.Author.Needs.{needs}
 use native.Mathlib.Omega.{arith}
 use Rattle.codec.proofs.name.less.Statement.{statement}
 use Rattle.codec.proofs.name.less.Tie as tie
-use Rattle.codec.proofs.name.less.Reads as reads
-use Rattle.codec.proofs.name.less.Lts as lts
 
 abbrev Inv-loop : tie.InvT-loop
 Inv-loop a b i₀ i = (i ≤ 32) × (lessBytes a b ≡ lessBytes (drop i a) (drop i b))

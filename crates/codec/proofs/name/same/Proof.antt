@@ -1,15 +1,13 @@
 use Prim.Native.Nat.{_<_}
 use Rattle.codec.proofs.Order.{same-on, same-not, same-end}
-use mathlib.Core.Path.{_≡_, refl, sym, ap, _∙_}
-use Prim.Native.Nat.{ℕ, _+_, _-_, _≤_}
+use mathlib.Core.Path.{_≡_, refl, sym, _∙_}
+use Prim.Native.Nat.{_-_, _≤_}
 use lib.ListN.{length, drop}
 use Rattle.codec.specs.Names.{sameBytes}
 use borrow.Author.Needs.{needs}
 use native.Mathlib.Omega.{arith}
 use Rattle.codec.proofs.name.same.Statement.{statement}
 use Rattle.codec.proofs.name.same.Tie as tie
-use Rattle.codec.proofs.name.same.Reads as reads
-use Rattle.codec.proofs.name.same.Lts as lts
 
 abbrev Inv-loop : tie.InvT-loop
 Inv-loop a b i₀ i = (i ≤ 32) × (sameBytes a b ≡ sameBytes (drop i a) (drop i b))

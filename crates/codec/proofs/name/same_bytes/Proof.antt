@@ -7,8 +7,6 @@ use borrow.Author.Needs.{needs}
 use native.Mathlib.Omega.{arith}
 use Rattle.codec.proofs.name.same_bytes.Statement.{statement}
 use Rattle.codec.proofs.name.same_bytes.Tie as tie
-use Rattle.codec.proofs.name.same_bytes.Reads as reads
-use Rattle.codec.proofs.name.same_bytes.Lts as lts
 
 abbrev Inv-loop : tie.InvT-loop
 Inv-loop x y i₀ i = (i ≤ length x) × (sameBytes x y ≡ sameBytes (drop i x) (drop i y))

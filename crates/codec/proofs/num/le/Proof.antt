@@ -5,13 +5,11 @@ use Prim.Native.Nat.{ℕ, _+_, _*_, _-_, _≤_}
 use lib.ListN.{length, drop, getD}
 use lib.Seq.{drop-length}
 use Rattle.codec.specs.Bytes.{leNat}
-use Rattle.codec.proofs.Le.{leNat-nil, leNat-turn, leNat-lt}
+use Rattle.codec.proofs.Le.{leNat-nil, leNat-turn}
 use borrow.Author.Needs.{needs}
 use native.Mathlib.Omega.{arith}
 use Rattle.codec.proofs.num.le.Statement.{statement}
 use Rattle.codec.proofs.num.le.Tie as tie
-use Rattle.codec.proofs.num.le.Reads as reads
-use Rattle.codec.proofs.num.le.Lts as lts
 use Rattle.codec.proofs.num.wide.Reads as wide-reads
 
 abbrev Inv-loop : tie.InvT-loop

@@ -1,13 +1,9 @@
 use mathlib.Core.Path.{ap, _∙_}
 use Rattle.codec.specs.Bytes.{leNat}
 use Rattle.codec.proofs.Laws.{part-lent}
-use Rattle.codec.proofs.Le.{leNat-part}
 use borrow.Author.Needs.{needs}
-use native.Mathlib.Omega.{arith}
 use Rattle.codec.proofs.num.le_at.Statement.{statement}
 use Rattle.codec.proofs.num.le_at.Tie as tie
-use Rattle.codec.proofs.num.le_at.Reads as reads
-use Rattle.codec.proofs.num.le_at.Lts as lts
 use Rattle.codec.proofs.num.le.Reads as le-reads
 
 add-le : tie.Need-add-le

@@ -8,8 +8,6 @@ use borrow.Author.Needs.{needs}
 use native.Mathlib.Omega.{arith}
 use Rattle.codec.proofs.num.put_le.Statement.{statement}
 use Rattle.codec.proofs.num.put_le.Tie as tie
-use Rattle.codec.proofs.num.put_le.Reads as reads
-use Rattle.codec.proofs.num.put_le.Lts as lts
 
 abbrev Inv-loop : tie.InvT-loop
 Inv-loop mem₀ at k x i₀ y₀ mem i y =

@@ -4,8 +4,6 @@ use borrow.Author.Needs.{needs}
 use native.Mathlib.Omega.{arith}
 use Rattle.codec.proofs.num.u16_at.Statement.{statement}
 use Rattle.codec.proofs.num.u16_at.Tie as tie
-use Rattle.codec.proofs.num.u16_at.Reads as reads
-use Rattle.codec.proofs.num.u16_at.Lts as lts
 use Rattle.codec.proofs.num.le_at.Reads as le-at-reads
 
 le-at-requires : tie.Need-le-at-requires

@@ -1,11 +1,7 @@
-use mathlib.Core.Path.{_≡_, refl, sym, ap, subst, _∙_}
 use Rattle.memory.specs.Decided.{above}
 use borrow.Author.Needs.{needs}
-use native.Mathlib.Omega.{arith}
 use Rattle.memory.proofs.decided.above.Statement.{statement}
 use Rattle.memory.proofs.decided.above.Tie as tie
-use Rattle.memory.proofs.decided.above.Reads as reads
-use Rattle.memory.proofs.decided.above.Lts as lts
 use Rattle.codec.proofs.name.less.Reads as less-reads
 
 less-requires : tie.Need-less-requires

@@ -1,13 +1,11 @@
-use mathlib.Core.Path.{_≡_, refl, sym, ap, subst, _∙_}
-use Prim.Native.Nat.{ℕ, _+_, _-_, _≤_, _<_}
+use mathlib.Core.Path.{_≡_, refl, ap, _∙_}
+use Prim.Native.Nat.{_-_, _≤_}
 use Rattle.memory.specs.Decided.{choose}
 use Rattle.memory.proofs.Forming.{choose-on}
 use borrow.Author.Needs.{needs}
 use native.Mathlib.Omega.{arith}
 use Rattle.memory.proofs.decided.choose.Statement.{statement}
 use Rattle.memory.proofs.decided.choose.Tie as tie
-use Rattle.memory.proofs.decided.choose.Reads as reads
-use Rattle.memory.proofs.decided.choose.Lts as lts
 use Rattle.memory.proofs.decided.consider.Reads as consider-reads
 
 abbrev Inv-loop : tie.InvT-loop

@@ -1,14 +1,11 @@
-use mathlib.Core.Path.{_≡_, refl, sym, ap, subst, _∙_}
+use mathlib.Core.Path.{_≡_}
 use mathlib.Core.Bool.{true, false}
 use borrow.Author.Tests.{not-true, not-false}
 use Rattle.memory.specs.Kept.{kept}
 use Rattle.memory.specs.Decided.{consider}
 use borrow.Author.Needs.{needs}
-use native.Mathlib.Omega.{arith}
 use Rattle.memory.proofs.decided.consider.Statement.{statement}
 use Rattle.memory.proofs.decided.consider.Tie as tie
-use Rattle.memory.proofs.decided.consider.Reads as reads
-use Rattle.memory.proofs.decided.consider.Lts as lts
 use Rattle.codec.proofs.name_at.Reads as name-at-reads
 use Rattle.memory.proofs.decided.decided.Reads as decided-reads
 use Rattle.memory.proofs.decided.improves.Reads as improves-reads

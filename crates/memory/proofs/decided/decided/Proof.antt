@@ -1,12 +1,8 @@
-use mathlib.Core.Path.{_≡_, refl, sym, ap, subst, _∙_}
 use borrow.Author.Tests.{le-leb, lt-leb}
 use Rattle.memory.specs.Decided.{decided}
 use borrow.Author.Needs.{needs}
-use native.Mathlib.Omega.{arith}
 use Rattle.memory.proofs.decided.decided.Statement.{statement}
 use Rattle.memory.proofs.decided.decided.Tie as tie
-use Rattle.memory.proofs.decided.decided.Reads as reads
-use Rattle.memory.proofs.decided.decided.Lts as lts
 use Rattle.memory.proofs.kept.commit_row.Reads as commit-row-reads
 use Rattle.memory.proofs.kept.count_backers.Reads as count-backers-reads
 use Rattle.memory.proofs.kept.vote_row.Reads as vote-row-reads

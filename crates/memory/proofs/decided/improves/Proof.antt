@@ -1,13 +1,10 @@
-use mathlib.Core.Path.{_≡_, refl, sym, ap, subst, _∙_}
+use mathlib.Core.Path.{_≡_}
 use mathlib.Core.Bool.{true, false}
 use borrow.Author.Tests.{not-true, not-false}
 use Rattle.memory.specs.Decided.{improves}
 use borrow.Author.Needs.{needs}
-use native.Mathlib.Omega.{arith}
 use Rattle.memory.proofs.decided.improves.Statement.{statement}
 use Rattle.memory.proofs.decided.improves.Tie as tie
-use Rattle.memory.proofs.decided.improves.Reads as reads
-use Rattle.memory.proofs.decided.improves.Lts as lts
 use Rattle.codec.proofs.name.less.Reads as less-reads
 use Rattle.memory.proofs.decided.above.Reads as above-reads
 

@@ -1,12 +1,9 @@
-use mathlib.Core.Path.{_≡_, refl, sym, ap, subst, _∙_}
+use mathlib.Core.Path.{sym, _∙_}
 use Rattle.memory.specs.Decided.{nextDecided}
 use Rattle.memory.proofs.Passing.{few-none}
 use borrow.Author.Needs.{needs}
-use native.Mathlib.Omega.{arith}
 use Rattle.memory.proofs.decided.next_decided.Statement.{statement}
 use Rattle.memory.proofs.decided.next_decided.Tie as tie
-use Rattle.memory.proofs.decided.next_decided.Reads as reads
-use Rattle.memory.proofs.decided.next_decided.Lts as lts
 use Rattle.memory.proofs.decided.choose.Reads as choose-reads
 use Rattle.memory.proofs.decided.too_few.Reads as too-few-reads
 use Rattle.memory.proofs.kept.commit_row.Reads as commit-row-reads

@@ -1,12 +1,8 @@
-use mathlib.Core.Path.{_≡_, refl, sym, ap, subst, _∙_}
 use borrow.Author.Tests.{lt-ltb, le-ltb}
 use Rattle.memory.specs.Decided.{tooFew}
 use borrow.Author.Needs.{needs}
-use native.Mathlib.Omega.{arith}
 use Rattle.memory.proofs.decided.too_few.Statement.{statement}
 use Rattle.memory.proofs.decided.too_few.Tie as tie
-use Rattle.memory.proofs.decided.too_few.Reads as reads
-use Rattle.memory.proofs.decided.too_few.Lts as lts
 use Rattle.memory.proofs.kept.commit_row.Reads as commit-row-reads
 use Rattle.memory.proofs.kept.kept_count.Reads as kept-count-reads
 use Rattle.memory.proofs.kept.vote_row.Reads as vote-row-reads

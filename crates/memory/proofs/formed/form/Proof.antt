@@ -1,6 +1,6 @@
 use Prim.Native.Nat.{_+_, _*_, _≤_}
 use Rattle.memory.proofs.Rows.{gathered-le}
-use mathlib.Core.Path.{_≡_, refl, sym, ap, subst, _∙_}
+use mathlib.Core.Path.{refl, ap, _∙_}
 use lib.ListN.{length}
 use Rattle.codec.proofs.Laws.{length-patch}
 use Rattle.memory.specs.Kept.{gathered}
@@ -10,8 +10,6 @@ use borrow.Author.Needs.{needs}
 use native.Mathlib.Omega.{arith}
 use Rattle.memory.proofs.formed.form.Statement.{statement}
 use Rattle.memory.proofs.formed.form.Tie as tie
-use Rattle.memory.proofs.formed.form.Reads as reads
-use Rattle.memory.proofs.formed.form.Lts as lts
 use Rattle.memory.proofs.kept.gather.Reads as gather-reads
 use Rattle.memory.proofs.kept.timeout_row.Reads as timeout-row-reads
 use Rattle.wire.proofs.write.put_timeouts_head.Reads as put-timeouts-head-reads

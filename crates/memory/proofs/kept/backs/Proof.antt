@@ -1,12 +1,8 @@
-use mathlib.Core.Path.{_≡_, refl, sym, ap, _∙_}
 use Rattle.memory.specs.Kept.{backs, kept}
-use Rattle.memory.proofs.Places.{entry-inside}
 use borrow.Author.Needs.{needs}
 use native.Mathlib.Omega.{arith}
 use Rattle.memory.proofs.kept.backs.Statement.{statement}
 use Rattle.memory.proofs.kept.backs.Tie as tie
-use Rattle.memory.proofs.kept.backs.Reads as reads
-use Rattle.memory.proofs.kept.backs.Lts as lts
 use Rattle.codec.proofs.name.same.Reads as same-reads
 use Rattle.codec.proofs.name_at.Reads as name-at-reads
 use Rattle.memory.proofs.kept.entry_at.Reads as entry-at-reads

@@ -1,11 +1,7 @@
-use mathlib.Core.Path.{_≡_, refl, sym, ap, _∙_}
 use Rattle.memory.specs.Kept.{cleared}
 use borrow.Author.Needs.{needs}
-use native.Mathlib.Omega.{arith}
 use Rattle.memory.proofs.kept.clear_row.Statement.{statement}
 use Rattle.memory.proofs.kept.clear_row.Tie as tie
-use Rattle.memory.proofs.kept.clear_row.Reads as reads
-use Rattle.memory.proofs.kept.clear_row.Lts as lts
 use Rattle.codec.proofs.clear.Reads as clear-reads
 
 mul-clear : tie.Need-mul-clear

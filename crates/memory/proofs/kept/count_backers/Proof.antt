@@ -1,14 +1,11 @@
-use mathlib.Core.Path.{_≡_, refl, sym, ap, subst, _∙_}
-use Prim.Native.Nat.{ℕ, _+_, _-_, _≤_, _<_, _^_}
-use Rattle.memory.specs.declared.kept.Tally.{Tally}
+use mathlib.Core.Path.{_≡_, refl, ap, _∙_}
+use Prim.Native.Nat.{_-_, _≤_, _<_, _^_}
 use Rattle.memory.specs.Kept.{tally}
 use Rattle.memory.proofs.Rows.{tally-count, tally-signers, tally-on}
 use borrow.Author.Needs.{needs}
 use native.Mathlib.Omega.{arith}
 use Rattle.memory.proofs.kept.count_backers.Statement.{statement}
 use Rattle.memory.proofs.kept.count_backers.Tie as tie
-use Rattle.memory.proofs.kept.count_backers.Reads as reads
-use Rattle.memory.proofs.kept.count_backers.Lts as lts
 use Rattle.memory.proofs.kept.tallied.Reads as tallied-reads
 
 abbrev Inv-loop : tie.InvT-loop

@@ -1,11 +1,8 @@
-use mathlib.Core.Path.{_≡_, refl, sym, ap, _∙_}
 use Rattle.memory.proofs.Places.{entry-small}
 use borrow.Author.Needs.{needs}
 use native.Mathlib.Omega.{arith}
 use Rattle.memory.proofs.kept.entry_at.Statement.{statement}
 use Rattle.memory.proofs.kept.entry_at.Tie as tie
-use Rattle.memory.proofs.kept.entry_at.Reads as reads
-use Rattle.memory.proofs.kept.entry_at.Lts as lts
 
 mul-result : tie.Need-mul-result
 mul-result c = omega (arith, entry-small (c .args .width) (c .args .i) (c .pre .1 .0) (c .pre .1 .1))

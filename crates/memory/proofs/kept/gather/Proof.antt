@@ -1,7 +1,7 @@
 use Rattle.codec.proofs.Laws.{length-patch}
 use Rattle.memory.proofs.Places.{next-place}
-use mathlib.Core.Path.{_≡_, refl, sym, ap, subst, _∙_}
-use Prim.Native.Nat.{ℕ, _+_, _*_, _-_, _≤_, _<_}
+use mathlib.Core.Path.{_≡_, refl, ap, _∙_}
+use Prim.Native.Nat.{_+_, _*_, _-_, _≤_, _<_}
 use native.Mathlib.Nat.{sub-zero}
 use lib.ListN.{length}
 use Rattle.codec.specs.Bytes.{patch}
@@ -12,8 +12,6 @@ use borrow.Author.Needs.{needs}
 use native.Mathlib.Omega.{arith}
 use Rattle.memory.proofs.kept.gather.Statement.{statement}
 use Rattle.memory.proofs.kept.gather.Tie as tie
-use Rattle.memory.proofs.kept.gather.Reads as reads
-use Rattle.memory.proofs.kept.gather.Lts as lts
 use Rattle.memory.proofs.kept.gather_one.Reads as gather-one-reads
 
 abbrev Inv-loop : tie.InvT-loop

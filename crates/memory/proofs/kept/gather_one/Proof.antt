@@ -1,13 +1,10 @@
 use Rattle.memory.proofs.Rows.{put-one, put-none}
-use mathlib.Core.Path.{_≡_, refl, sym, ap, subst, _∙_}
-use lib.ListN.{length}
+use mathlib.Core.Path.{sym, _∙_}
 use Rattle.memory.proofs.Places.{entry-inside}
 use borrow.Author.Needs.{needs}
 use native.Mathlib.Omega.{arith}
 use Rattle.memory.proofs.kept.gather_one.Statement.{statement}
 use Rattle.memory.proofs.kept.gather_one.Tie as tie
-use Rattle.memory.proofs.kept.gather_one.Reads as reads
-use Rattle.memory.proofs.kept.gather_one.Lts as lts
 use Rattle.codec.proofs.put.Reads as put-reads
 use Rattle.memory.proofs.kept.entry_at.Reads as entry-at-reads
 use Rattle.memory.proofs.kept.has.Reads as has-reads

@@ -1,11 +1,7 @@
-use mathlib.Core.Path.{_≡_, refl, sym, ap, _∙_}
 use Rattle.memory.specs.Kept.{has}
 use borrow.Author.Needs.{needs}
-use native.Mathlib.Omega.{arith}
 use Rattle.memory.proofs.kept.has.Statement.{statement}
 use Rattle.memory.proofs.kept.has.Tie as tie
-use Rattle.memory.proofs.kept.has.Reads as reads
-use Rattle.memory.proofs.kept.has.Lts as lts
 use Rattle.certificate.proofs.safe.signs.Reads as signs-reads
 use Rattle.memory.proofs.kept.mask.Reads as mask-reads
 

@@ -2,9 +2,8 @@ use Prim.Native.Nat.{ℕ, _^_}
 use mathlib.Core.Bool.{false}
 use Rattle.certificate.specs.Safe.{signs}
 use lib.ListN.{length}
-use mathlib.Core.Path.{_≡_, refl, sym, ap, subst, _∙_}
+use mathlib.Core.Path.{_≡_, sym, ap, _∙_}
 use Prim.Native.Nat.{_<_}
-use Rattle.codec.proofs.Laws.{length-patch}
 use Rattle.codec.proofs.Words.{shifted}
 use Rattle.certificate.proofs.Signers.{joined-lt}
 use Rattle.memory.proofs.Places.{entry-inside}
@@ -13,8 +12,6 @@ use borrow.Author.Needs.{needs}
 use native.Mathlib.Omega.{arith}
 use Rattle.memory.proofs.kept.keep.Statement.{statement}
 use Rattle.memory.proofs.kept.keep.Tie as tie
-use Rattle.memory.proofs.kept.keep.Reads as reads
-use Rattle.memory.proofs.kept.keep.Lts as lts
 use Rattle.codec.proofs.num.put_u64.Reads as put-u64-reads
 use Rattle.codec.proofs.put.Reads as put-reads
 use Rattle.memory.proofs.kept.entry_at.Reads as entry-at-reads

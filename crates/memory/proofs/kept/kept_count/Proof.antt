@@ -1,13 +1,10 @@
 use lib.Pow.{pow-pos}
-use mathlib.Core.Path.{_≡_, refl, sym, ap, _∙_}
 use Rattle.codec.proofs.Words.{shifted}
 use Rattle.memory.specs.Kept.{keptCount}
 use borrow.Author.Needs.{needs}
 use native.Mathlib.Omega.{arith}
 use Rattle.memory.proofs.kept.kept_count.Statement.{statement}
 use Rattle.memory.proofs.kept.kept_count.Tie as tie
-use Rattle.memory.proofs.kept.kept_count.Reads as reads
-use Rattle.memory.proofs.kept.kept_count.Lts as lts
 use Rattle.certificate.proofs.signer_count.Reads as signer-count-reads
 use Rattle.memory.proofs.kept.mask.Reads as mask-reads
 

@@ -1,11 +1,7 @@
-use mathlib.Core.Path.{_≡_, refl, sym, ap, _∙_}
 use Rattle.memory.specs.Kept.{mask}
 use borrow.Author.Needs.{needs}
-use native.Mathlib.Omega.{arith}
 use Rattle.memory.proofs.kept.mask.Statement.{statement}
 use Rattle.memory.proofs.kept.mask.Tie as tie
-use Rattle.memory.proofs.kept.mask.Reads as reads
-use Rattle.memory.proofs.kept.mask.Lts as lts
 use Rattle.codec.proofs.num.u64_at.Reads as u64-at-reads
 
 u64-at-requires : tie.Need-u64-at-requires

@@ -1,6 +1,5 @@
 use Prim.Native.Nat.{_^_, _≤_}
 use lib.Pow.{pow-mono}
-use mathlib.Core.Path.{_≡_, refl, sym, ap, _∙_}
 use Prim.Native.Nat.{_<_}
 use Rattle.codec.proofs.Words.{shifted}
 use Rattle.memory.specs.Kept.{tallied}
@@ -8,8 +7,6 @@ use borrow.Author.Needs.{needs}
 use native.Mathlib.Omega.{arith}
 use Rattle.memory.proofs.kept.tallied.Statement.{statement}
 use Rattle.memory.proofs.kept.tallied.Tie as tie
-use Rattle.memory.proofs.kept.tallied.Reads as reads
-use Rattle.memory.proofs.kept.tallied.Lts as lts
 use Rattle.memory.proofs.kept.backs.Reads as backs-reads
 
 backs-requires : tie.Need-backs-requires

@@ -1,5 +1,5 @@
-use mathlib.Core.Path.{_≡_, refl, sym, ap, subst, _∙_}
-use Prim.Native.Nat.{ℕ, _+_, _-_, _≤_, _<_}
+use mathlib.Core.Path.{_≡_, refl, sym, ap, _∙_}
+use Prim.Native.Nat.{ℕ, _+_, _-_, _≤_}
 use mathlib.Core.List.{List}
 use native.Mathlib.Nat.{add-zero, sub-zero}
 use lib.ListN.{length}
@@ -11,8 +11,6 @@ use borrow.Author.Needs.{needs}
 use native.Mathlib.Omega.{arith}
 use Rattle.memory.proofs.window.drop_timeouts.Statement.{statement}
 use Rattle.memory.proofs.window.drop_timeouts.Tie as tie
-use Rattle.memory.proofs.window.drop_timeouts.Reads as reads
-use Rattle.memory.proofs.window.drop_timeouts.Lts as lts
 use Rattle.memory.proofs.kept.clear_row.Reads as clear-row-reads
 use Rattle.memory.proofs.kept.timeout_row.Reads as timeout-row-reads
 

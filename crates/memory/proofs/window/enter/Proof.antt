@@ -1,11 +1,7 @@
-use mathlib.Core.Path.{_≡_, refl, sym, ap, subst, _∙_}
 use Rattle.memory.specs.Window.{entered}
 use borrow.Author.Needs.{needs}
-use native.Mathlib.Omega.{arith}
 use Rattle.memory.proofs.window.enter.Statement.{statement}
 use Rattle.memory.proofs.window.enter.Tie as tie
-use Rattle.memory.proofs.window.enter.Reads as reads
-use Rattle.memory.proofs.window.enter.Lts as lts
 use Rattle.memory.proofs.window.drop_ballots.Reads as drop-ballots-reads
 use Rattle.memory.proofs.window.drop_timeouts.Reads as drop-timeouts-reads
 use Rattle.memory.proofs.window.incoming.Reads as incoming-reads

@@ -1,11 +1,7 @@
-use mathlib.Core.Path.{_≡_, refl, sym, ap, _∙_}
 use Rattle.memory.specs.Window.{leaderOf}
 use borrow.Author.Needs.{needs}
-use native.Mathlib.Omega.{arith}
 use Rattle.memory.proofs.window.leader.Statement.{statement}
 use Rattle.memory.proofs.window.leader.Tie as tie
-use Rattle.memory.proofs.window.leader.Reads as reads
-use Rattle.memory.proofs.window.leader.Lts as lts
 use Rattle.settings.proofs.Settings.n.Reads as n-reads
 
 sub-result : tie.Need-sub-result

@@ -1,4 +1,4 @@
-use mathlib.Core.Path.{_≡_, refl, sym, ap, _∙_}
+use mathlib.Core.Path.{_≡_, sym, _∙_}
 use borrow.Author.Tests.{ne-eqb}
 use lib.ListN.{drop}
 use Rattle.codec.proofs.Laws.{part-drop}
@@ -8,8 +8,6 @@ use borrow.Author.Needs.{needs}
 use native.Mathlib.Omega.{arith}
 use Rattle.wire.proofs.read.progress.Statement.{statement}
 use Rattle.wire.proofs.read.progress.Tie as tie
-use Rattle.wire.proofs.read.progress.Reads as reads
-use Rattle.wire.proofs.read.progress.Lts as lts
 use Rattle.codec.proofs.num.u16_at.Reads as u16-at-reads
 use Rattle.codec.proofs.num.u64_at.Reads as u64-at-reads
 

@@ -1,11 +1,7 @@
-use mathlib.Core.Path.{_≡_, refl, sym, ap, _∙_}
 use Rattle.wire.specs.Content.{proposedOf}
 use borrow.Author.Needs.{needs}
-use native.Mathlib.Omega.{arith}
 use Rattle.wire.proofs.read.proposed.Statement.{statement}
 use Rattle.wire.proofs.read.proposed.Tie as tie
-use Rattle.wire.proofs.read.proposed.Reads as reads
-use Rattle.wire.proofs.read.proposed.Lts as lts
 use Rattle.codec.proofs.name_at.Reads as name-at-reads
 use Rattle.codec.proofs.num.u64_at.Reads as u64-at-reads
 

@@ -1,4 +1,3 @@
-use mathlib.Core.Path.{_≡_, refl, sym, ap, _∙_}
 use mathlib.Core.List.{append-assoc}
 use Rattle.codec.specs.Bytes.{leBytes}
 use Rattle.codec.proofs.Le.{length-leBytes}
@@ -6,11 +5,8 @@ use Rattle.wire.specs.Encode.{headerBytes, blockBytes}
 use Rattle.wire.proofs.Writes.{first, next, whole}
 use Rattle.wire.proofs.Lengths.{length-header}
 use borrow.Author.Needs.{needs}
-use native.Mathlib.Omega.{arith}
 use Rattle.wire.proofs.write.put_block.Statement.{statement}
 use Rattle.wire.proofs.write.put_block.Tie as tie
-use Rattle.wire.proofs.write.put_block.Reads as reads
-use Rattle.wire.proofs.write.put_block.Lts as lts
 use Rattle.codec.proofs.num.put_u64.Reads as put-u64-reads
 use Rattle.codec.proofs.put_name.Reads as put-name-reads
 use Rattle.wire.proofs.write.put_header.Reads as put-header-reads

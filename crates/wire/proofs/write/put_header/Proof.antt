@@ -1,16 +1,11 @@
 use Rattle.codec.specs.Bytes.{leBytes}
 use Rattle.wire.proofs.Writes.{first, next, whole}
-use mathlib.Core.Path.{_≡_, refl, sym, ap, _∙_}
 use mathlib.Core.List.{append-assoc}
 use Rattle.codec.proofs.Le.{length-leBytes}
 use Rattle.wire.specs.Encode.{headerBytes}
-use Rattle.wire.proofs.Writes.{Written, next}
 use borrow.Author.Needs.{needs}
-use native.Mathlib.Omega.{arith}
 use Rattle.wire.proofs.write.put_header.Statement.{statement}
 use Rattle.wire.proofs.write.put_header.Tie as tie
-use Rattle.wire.proofs.write.put_header.Reads as reads
-use Rattle.wire.proofs.write.put_header.Lts as lts
 use Rattle.codec.proofs.num.put_u16.Reads as put-u16-reads
 use Rattle.codec.proofs.num.put_u32.Reads as put-u32-reads
 

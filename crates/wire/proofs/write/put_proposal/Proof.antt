@@ -1,17 +1,12 @@
-use mathlib.Core.Path.{_≡_, refl, sym, ap, _∙_}
+use mathlib.Core.Path.{refl}
 use mathlib.Core.List.{append-assoc}
-use Rattle.codec.specs.Bytes.{leBytes}
-use Rattle.codec.proofs.Le.{length-leBytes}
 use Rattle.wire.specs.Encode.{proposalHeadBytes, proposalBytes}
 use Rattle.wire.proofs.Writes.{first, next, whole}
 use Rattle.wire.proofs.Lengths.{length-proposal-head}
 use lib.ListN.{length}
 use borrow.Author.Needs.{needs}
-use native.Mathlib.Omega.{arith}
 use Rattle.wire.proofs.write.put_proposal.Statement.{statement}
 use Rattle.wire.proofs.write.put_proposal.Tie as tie
-use Rattle.wire.proofs.write.put_proposal.Reads as reads
-use Rattle.wire.proofs.write.put_proposal.Lts as lts
 use Rattle.codec.proofs.put.Reads as put-reads
 use Rattle.wire.proofs.write.put_proposal_head.Reads as put-proposal-head-reads
 

@@ -1,5 +1,5 @@
 use lib.ListN.{length}
-use mathlib.Core.Path.{_≡_, refl, sym, ap, _∙_}
+use mathlib.Core.Path.{_≡_}
 use mathlib.Core.List.{append-assoc}
 use Rattle.codec.specs.Bytes.{leBytes}
 use Rattle.codec.proofs.Le.{length-leBytes}
@@ -8,11 +8,8 @@ use Rattle.wire.proofs.Writes.{first, next, whole}
 use Rattle.wire.proofs.Lengths.{length-header}
 use Prim.Native.Nat.{_+_}
 use borrow.Author.Needs.{needs}
-use native.Mathlib.Omega.{arith}
 use Rattle.wire.proofs.write.put_proposal_head.Statement.{statement}
 use Rattle.wire.proofs.write.put_proposal_head.Tie as tie
-use Rattle.wire.proofs.write.put_proposal_head.Reads as reads
-use Rattle.wire.proofs.write.put_proposal_head.Lts as lts
 use Rattle.codec.proofs.num.put_u64.Reads as put-u64-reads
 use Rattle.codec.proofs.put_name.Reads as put-name-reads
 use Rattle.wire.proofs.write.put_header.Reads as put-header-reads

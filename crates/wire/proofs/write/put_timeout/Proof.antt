@@ -1,5 +1,5 @@
 use lib.ListN.{length}
-use mathlib.Core.Path.{_≡_, refl, sym, ap, _∙_}
+use mathlib.Core.Path.{_≡_}
 use mathlib.Core.List.{append-assoc}
 use Rattle.codec.specs.Bytes.{leBytes}
 use Rattle.codec.proofs.Le.{length-leBytes}
@@ -7,11 +7,8 @@ use Rattle.wire.specs.Encode.{timeoutHead, timeoutBytes}
 use Rattle.wire.proofs.Writes.{first, next, whole}
 use Rattle.wire.proofs.Lengths.{length-timeout-head}
 use borrow.Author.Needs.{needs}
-use native.Mathlib.Omega.{arith}
 use Rattle.wire.proofs.write.put_timeout.Statement.{statement}
 use Rattle.wire.proofs.write.put_timeout.Tie as tie
-use Rattle.wire.proofs.write.put_timeout.Reads as reads
-use Rattle.wire.proofs.write.put_timeout.Lts as lts
 use Rattle.codec.proofs.num.put_le.Reads as put-le-reads
 use Rattle.codec.proofs.num.put_u16.Reads as put-u16-reads
 use Rattle.codec.proofs.num.put_u64.Reads as put-u64-reads

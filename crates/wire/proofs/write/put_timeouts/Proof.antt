@@ -1,17 +1,12 @@
-use mathlib.Core.Path.{_≡_, refl, sym, ap, _∙_}
+use mathlib.Core.Path.{refl}
 use mathlib.Core.List.{append-assoc}
-use Rattle.codec.specs.Bytes.{leBytes}
-use Rattle.codec.proofs.Le.{length-leBytes}
 use Rattle.wire.specs.Encode.{timeoutsHeadBytes, timeoutsBytes}
 use Rattle.wire.proofs.Writes.{first, next, whole}
 use Rattle.wire.proofs.Lengths.{length-timeouts-head}
 use lib.ListN.{length}
 use borrow.Author.Needs.{needs}
-use native.Mathlib.Omega.{arith}
 use Rattle.wire.proofs.write.put_timeouts.Statement.{statement}
 use Rattle.wire.proofs.write.put_timeouts.Tie as tie
-use Rattle.wire.proofs.write.put_timeouts.Reads as reads
-use Rattle.wire.proofs.write.put_timeouts.Lts as lts
 use Rattle.codec.proofs.put.Reads as put-reads
 use Rattle.wire.proofs.write.put_timeouts_head.Reads as put-timeouts-head-reads
 

@@ -1,4 +1,3 @@
-use mathlib.Core.Path.{_≡_, refl, sym, ap, _∙_}
 use mathlib.Core.List.{append-assoc}
 use Rattle.codec.specs.Bytes.{leBytes}
 use Rattle.codec.proofs.Le.{length-leBytes}
@@ -7,11 +6,8 @@ use Rattle.wire.proofs.Writes.{first, next, whole}
 use Rattle.wire.proofs.Lengths.{length-header}
 use Prim.Native.Nat.{_+_, _/_}
 use borrow.Author.Needs.{needs}
-use native.Mathlib.Omega.{arith}
 use Rattle.wire.proofs.write.put_timeouts_head.Statement.{statement}
 use Rattle.wire.proofs.write.put_timeouts_head.Tie as tie
-use Rattle.wire.proofs.write.put_timeouts_head.Reads as reads
-use Rattle.wire.proofs.write.put_timeouts_head.Lts as lts
 use Rattle.codec.proofs.num.put_le.Reads as put-le-reads
 use Rattle.codec.proofs.num.put_u64.Reads as put-u64-reads
 use Rattle.wire.proofs.write.put_header.Reads as put-header-reads
