@@ -14,7 +14,8 @@
     asks      [proof ..]   of each call whose callee has a `requires`, in order.        fits   [proof ..]  of each sum (that it is below 2 ^ 64) and each difference (that what is taken is at most that from which), in order
     says      [proof ..]   of the `ensures`, at each return, in order; '' where f has none, as 'ens' is '' where g has none
     lets      [[(name, type, proof) ..] ..]   facts, in front of the arms: of branch 0 the first and the second, and so on
-    measure   of a function that calls itself: the parameter that falls, or a path into it (`b .height .0`).         falls    [proof ..]   of each call of itself
+    measure   of a function that calls itself: the parameter that falls, or a path into it (`b .height .0`).         weight   a function from that to a number, where it is none
+    falls    [proof ..]   of each call of itself
     types     {crate: the crate whose Types.antt has its structs}, where that is another
     spec      {module: [names]} to import: definitions and lemmas.          lemmas   text put in front          about   a sentence for the head of the file
 The proofs may name: the parameters; P-is (that the plain parameter P is of its type: `.1` of a number's is its bound); P-room (of a slice); `asked` (the requires);
@@ -155,7 +156,8 @@ abbrev pub {n}ᴰ : Data {n}ᴿ
 ''')
     text = '\n'.join(out)
     words = set(re.findall(r'[^\s(){},;]+', text))
-    uses = [f'use Rattle.{kit}.proofs.Walk.LL', 'use mir.Syntax.{Ty}', 'use denote.RattleType.{RattleType}',
+    widths = ''.join(f', {w}' for w in ('w16', 'w32') if w in words)
+    uses = [f'use Rattle.{kit}.proofs.Walk.LL', f'use mir.Syntax.{{Ty{widths}}}', 'use denote.RattleType.{RattleType}',
         f'use Rattle.{kit}.proofs.Data.{{{", ".join(n for n in ("Data", "At", "again", "word", "byte", "num", "flag", "nil", "bytes", "struct", "field-bytes") if n in words)}}}']
     for q in [x for x in T.used if x not in mine]: uses.append(f'use Rattle.{q.split("::")[0]}.proofs.Types.{{{q.split("::")[1]}ᴰ}}')
     for q in mine:
@@ -648,7 +650,9 @@ module _ {{M : Type 1}} (𝓤 : URA M) (H : Heap 𝓤) (A : Atoms 𝓤) (mem : M
         into = rec.split(' ', 1)
         i = [p.name for p in pars].index(into[0])
         into = ' ' + into[1] if len(into) > 1 else ''
-        μ = f'y′ .0 .3{path(i)}{into}'
+        weighed = lambda x: f'{d["weight"]} ({x})' if 'weight' in d else x
+        μ = weighed(f'y′ .0 .3{path(i)}{into}')
+        rec = weighed(rec)
     selft = f'\n      → ((y′ : {self_c} 𝓤 H A mem run .Ghost) → {μ} < {rec} → ent 𝓤 ({self_c} 𝓤 H A mem run .pre y′) (C #f ({self_c} 𝓤 H A mem run .args y′) ({self_c} 𝓤 H A mem run .post y′)))' if rec else ''
     toks = '‵ ftrue'
     for j in reversed(range(nl)): toks = f'(‵ (flft κ{j} q{j}) ⊛ {toks})'
@@ -695,7 +699,7 @@ unfolding code.routine tablesOf
     else:
         o.append(f'''  -- the contract at one choice of what the triple binds outside, from the contract where the measure is less
   meets-at : (𝓣 : Tables 𝓤 H) → Known 𝓤 H A mem run (𝓣 .C) → (y : {self_c} 𝓤 H A mem run .Ghost)
-      → ((y′ : {self_c} 𝓤 H A mem run .Ghost) → {μ} < y .0 .3{path(i)}{into} → ent 𝓤 ({self_c} 𝓤 H A mem run .pre y′) (𝓣 .C #f ({self_c} 𝓤 H A mem run .args y′) ({self_c} 𝓤 H A mem run .post y′)))
+      → ((y′ : {self_c} 𝓤 H A mem run .Ghost) → {μ} < {weighed(f"y .0 .3{path(i)}{into}")} → ent 𝓤 ({self_c} 𝓤 H A mem run .pre y′) (𝓣 .C #f ({self_c} 𝓤 H A mem run .args y′) ({self_c} 𝓤 H A mem run .post y′)))
       → ent 𝓤 ({self_c} 𝓤 H A mem run .pre y) ({WP[1:-1]} ({self_c} 𝓤 H A mem run .args y) ({self_c} 𝓤 H A mem run .post y))
   meets-at 𝓣 known y self =
       let κs = y .0 .0 in let qs = y .0 .1 in let a = y .0 .3 in

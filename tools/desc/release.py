@@ -8,7 +8,7 @@
         'blocks::put_line': {'req': 'yes', 'ens': 'Written {4} ({5} .0) {7} {6} (ancestry {2} (take {1} {0}) {3}) r {w6}'},
     },
     'asks': ['asked'],
-    'says': ['(e0 .0, e0 .1 .1)'],
+    'says': ['e0'],
     'spec': {
         'lib.ListN': ['take'],
         'Rattle.blocks.specs.Store': ['descends as descendsOf', 'ancestry'],

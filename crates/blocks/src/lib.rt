@@ -212,7 +212,8 @@ pub fn release(
 ) -> usize
     requires { ⌜ (descends tip (take count (now store)) b ≡ true) × (at + 56 * length (ancestry tip (take count (now store)) b) ≤ length (now out)) ⌝ }
     ensures { λ r. ⌜ (r ≡ at + 56 * length (ancestry tip (take count (now (store .entry))) b))
-        × (now (out .exit) ≡ patch (now (out .entry)) at (releases sender (view .0) (ancestry tip (take count (now (store .entry))) b))) ⌝ }
+        × ((length (releases sender (view .0) (ancestry tip (take count (now (store .entry))) b)) ≡ 56 * length (ancestry tip (take count (now (store .entry))) b))
+        × (now (out .exit) ≡ patch (now (out .entry)) at (releases sender (view .0) (ancestry tip (take count (now (store .entry))) b)))) ⌝ }
 {
     put_line(store, count, tip, b, sender, view, out, at)
 }

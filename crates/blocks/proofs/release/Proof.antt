@@ -60,7 +60,7 @@ module _ {M : Type 1} (𝓤 : URA M) (H : Heap 𝓤) (A : Atoms 𝓤) (W : Given
       move ! (1 ∷ []) $ use1 W (‵ (Shr Blockᴿ κ0 ys-b ys-o ys-γ ys-n ys) ⊛ ‵ (Shr Blockᴿ κ0 ys-b ys-o ys-γ ys-n ys)) (shr-slice-copy 𝓤 H A W (named 0) κ0 Blockᴿ .twice (lying Blockᴿ ys-b ys-o ys-γ ys) (ys-s ∷ [])) $ split ! $ move ! (2 ∷ 3 ∷ []) $ lend-mut ! tt u8 out-b out-o out-n out refl (λ ν0-1 δ0-1.
       let y0 : put-lineᶜ 𝓤 H A mem run .Ghost = (((κ0, ((ν0-1 ∷ []), tt)), (q0, (fullShare, tt)), tt, (lying Blockᴿ ys-b ys-o ys-γ ys, (count, (tip, (b, (sender, (view, (lying u8 out-b out-o δ0-1 out, (at, tt)))))))), (ys-s ∷ [], ((word .val count) ∷ [], ((Blockᴰ .val tip) ∷ [], ((Blockᴰ .val b) ∷ [], (((num w16) .val sender) ∷ [], ((Viewᴰ .val view) ∷ [], (out-s ∷ [], ((word .val at) ∷ [], tt))))))))), tt) in move ! (5 ∷ 0 ∷ 3 ∷ 1 ∷ []) $ asks ! put-line.ended (put-line.clauses 𝓤 H A mem run) y0 4 (held (of W word count count-is (of W Blockᴰ tip tip-is (of W Blockᴰ b b-is (of W (num w16) sender sender-is (of W Viewᴰ view view-is (held (of W word at at-is end)))))))) refl (so 𝓤 asked) $ calls-at ! fm (put-lineᶜ 𝓤 H A mem run) (known) y0 (and-then ! (load ! (from ! (stop !)) (look ! 21 refl)) (and-then ! (load ! (from ! (stop !)) (look ! 19 refl)) (and-then ! (load ! (from ! (stop !)) (look ! 17 refl)) (and-then ! (load ! (from ! (stop !)) (look ! 15 refl)) (and-then ! (load ! (from ! (stop !)) (look ! 13 refl)) (and-then ! (load ! (from ! (stop !)) (look ! 11 refl)) (and-then ! (load ! (from ! (stop !)) (look ! 3 refl)) (and-then ! (load ! (from ! (stop !)) (look ! 7 refl)) (no-more !))))))))) (λ w0. came ! put-line.ended (put-line.clauses 𝓤 H A mem run) y0 w0 word 22 refl refl (false ∷ false ∷ false ∷ false ∷ false ∷ false ∷ true ∷ false ∷ []) (λ r ws. Written sender (view .0) at out (ancestry tip (take count ys) b) r (ws .1 .1 .1 .1 .1 .1 .0)) (λ r ws. id⊢ 𝓤 _) (λ r0 ws0 is0 e0. move ! (1 ∷ 2 ∷ 3 ∷ []) $ back-again ! tt u8 out-b out-o out-n out (ws0 .1 .1 .1 .1 .1 .1 .0) out-room refl (λ l0-1.
       -- the exit
-      returns ! (look ! 24 refl) $ leave ! 4 (full _ ∷ full _ ∷ full _ ∷ full _ ∷ full _ ∷ full _ ∷ full _ ∷ full _ ∷ full _ ∷ full _ ∷ full _ ∷ []) refl $ keep ! (2 ∷ 1 ∷ 0 ∷ []) $ ends W f.ended stayed (f.clauses 𝓤 H A mem run) y (word .val r0) r0 (tt, (tt, (tt, (tt, (tt, (tt, ((ws0 .1 .1 .1 .1 .1 .1 .0), (tt, tt)))))))) (tt, (tt, (tt, (tt, (tt, (tt, (l0-1, (tt, tt)))))))) (word .makes 𝓤 H A W r0 _ is0) (so 𝓤 (e0 .0, e0 .1 .1)) (made (id⊢ 𝓤 _) (made (id⊢ 𝓤 _) (made (id⊢ 𝓤 _) (made (id⊢ 𝓤 _) (made (id⊢ 𝓤 _) (made (id⊢ 𝓤 _) (held (made (id⊢ 𝓤 _) end)))))))))))))))))))))))
+      returns ! (look ! 24 refl) $ leave ! 4 (full _ ∷ full _ ∷ full _ ∷ full _ ∷ full _ ∷ full _ ∷ full _ ∷ full _ ∷ full _ ∷ full _ ∷ full _ ∷ []) refl $ keep ! (2 ∷ 1 ∷ 0 ∷ []) $ ends W f.ended stayed (f.clauses 𝓤 H A mem run) y (word .val r0) r0 (tt, (tt, (tt, (tt, (tt, (tt, ((ws0 .1 .1 .1 .1 .1 .1 .0), (tt, tt)))))))) (tt, (tt, (tt, (tt, (tt, (tt, (l0-1, (tt, tt)))))))) (word .makes 𝓤 H A W r0 _ is0) (so 𝓤 e0) (made (id⊢ 𝓤 _) (made (id⊢ 𝓤 _) (made (id⊢ 𝓤 _) (made (id⊢ 𝓤 _) (made (id⊢ 𝓤 _) (made (id⊢ 𝓤 _) (held (made (id⊢ 𝓤 _) end)))))))))))))))))))))))
 
 module _ {M : Type 1} (𝓤 : URA M) (H : Heap 𝓤) (A : Atoms 𝓤) (W : Given 𝓤 H A) (mem : Memory → SProp 𝓤) (run : Routine → Fun 𝓤) where
   goes : AllGo 𝓤 H A W 2 (f.signature .params) (f.ended .kept) stayed

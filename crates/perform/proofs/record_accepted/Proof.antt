@@ -1,0 +1,30 @@
+use Rattle.act.proofs.Types.{draft-typed}
+use Rattle.event.specs.Event.{Asked}
+use Rattle.perform.proofs.Completing.{completes}
+use Rattle.perform.proofs.Deciding.{record-asks, record-ready}
+use borrow.Author.Needs.{needs}
+use Rattle.perform.proofs.record_accepted.Statement.{statement}
+use Rattle.perform.proofs.record_accepted.Tie as tie
+use Rattle.perform.proofs.record_accepted.Reads as reads
+use Rattle.perform.proofs.record_accepted.Lts as lts
+use Rattle.event.proofs.record.on_record.Reads as on-record-reads
+use Rattle.perform.proofs.finish.Reads as finish-reads
+
+on-record-requires : tie.Need-on-record-requires
+on-record-requires c κs = record-asks (c .before .before .before .before .before .args .d) _ _ _ (c .before .before .before .before .before .args .held) (c .before .before .before .before .before .pre .0) (c .before .before .before .before .before .pre .1) (λ j. c .before .before .shared-slice-known .given j .fits)
+
+finish-requires : tie.Need-finish-requires
+finish-requires c κs = record-ready (c .before .before .before .before .before .before .before .before .before .before .before .before .args .d) _ _ _ (c .before .before .before .before .before .before .before .before .before .before .before .before .args .held) (c .before .before .before .before .before .before .before .before .before .before .before .before .pre .0) (c .before .before .before .before .before .before .before .before .before .before .before .before .pre .1) (λ j. c .before .before .before .before .before .before .before .before .before .shared-slice-known .given j .fits) (draft-typed (c .before .before .before .before .before .before .before .before .before .before .before .before .args .d) (c .before .before .before .before .before .before .before .before .before .before .before .before .good .1 .1 .0)) (λ j. c .before .before .before .before .before .before .before .before .before .before .before .slice-known .given j .fits) (c .before .before .before .before .before .before .on-record .ensures)
+
+same-length : tie.Need-same-length
+same-length c = search needs
+
+same-length-2 : tie.Need-same-length-2
+same-length-2 c = search needs
+
+returns : tie.Need-returns
+returns c = completes _ (Asked _ (c .before .before .before .before .before .before .before .before .before .before .before .before .before .before .before .before .before .args .held)) (c .before .before .before .before .before .before .before .before .before .before .before .on-record .ensures) (c .before .before .before .before .finish .ensures)
+
+pub record-accepted-spec : {M : Type 1} → statement M
+record-accepted-spec =
+    tie.close (tie.spec on-record-requires finish-requires same-length same-length-2 returns)

@@ -1,0 +1,32 @@
+use Rattle.protocol.specs.Events.{onTimer}
+use Rattle.act.proofs.Types.{draft-typed}
+use Rattle.act.proofs.Steps.{ready-less}
+use Rattle.event.specs.Event.{Always}
+use Rattle.perform.proofs.Completing.{timer-ready, completes}
+use borrow.Author.Needs.{needs}
+use native.Mathlib.Omega.{arith}
+use Rattle.perform.proofs.timer_accepted.Statement.{statement}
+use Rattle.perform.proofs.timer_accepted.Tie as tie
+use Rattle.perform.proofs.timer_accepted.Reads as reads
+use Rattle.perform.proofs.timer_accepted.Lts as lts
+use Rattle.event.proofs.host.on_timer.Reads as on-timer-reads
+use Rattle.perform.proofs.finish.Reads as finish-reads
+
+on-timer-requires : tie.Need-on-timer-requires
+on-timer-requires c κs = ready-less _ _ _ _ _ (omega arith) (c .before .before .before .before .pre)
+
+finish-requires : tie.Need-finish-requires
+finish-requires c κs = timer-ready (c .before .before .before .before .before .before .before .before .before .before .before .args .d) _ _ (c .before .before .before .before .before .before .before .before .before .before .before .args .view) (c .before .before .before .before .before .before .before .before .before .before .before .good .1 .1 .1 .0 .1) (draft-typed (c .before .before .before .before .before .before .before .before .before .before .before .args .d) (c .before .before .before .before .before .before .before .before .before .before .before .good .1 .1 .0)) (λ j. c .before .before .before .before .before .before .before .before .before .before .slice-known .given j .fits) (c .before .before .before .before .before .before .before .before .before .before .before .pre) (c .before .before .before .before .before .before .on-timer .ensures)
+
+same-length : tie.Need-same-length
+same-length c = search needs
+
+same-length-2 : tie.Need-same-length-2
+same-length-2 c = search needs
+
+returns : tie.Need-returns
+returns c = completes (onTimer (c .before .before .before .before .before .before .before .before .before .before .before .before .before .before .before .before .args .view)) Always (c .before .before .before .before .before .before .before .before .before .before .before .on-timer .ensures) (c .before .before .before .before .finish .ensures)
+
+pub timer-accepted-spec : {M : Type 1} → statement M
+timer-accepted-spec =
+    tie.close (tie.spec on-timer-requires finish-requires same-length same-length-2 returns)

@@ -1,0 +1,138 @@
+-- `release::target_from` meets its contract: a walk of its MIR. tools/walk.py wrote it from target_from.py. It calls itself: the method of `mutual-elim`, at the steps that are left.
+-- Assumes nothing.
+use Rattle.walks.proofs.Walk.{_≡_, refl, _∙_, sym, subst, ℕ, _<_, _^_, _≤_, _+_, [], _∷_, List, length, URA, named, w8, Body, imm, tyInt, tyRef, tyBool, Val, SProp, ent, id⊢, GName, Lft, Share, ftrue, flft, Memory, Routine, Heap, Calls, Loops, WpFn, Tables, Env, Atoms, Fun, givenOf, tables, tablesOf, Given, ‵, raw, _⊛_, _$_, _∵_, !, qed, move, drop, use1, split, fsplit, keep, atRet, look, init, stop, fld, from, load, of-opd, and-then, no-more, assigns, returns}
+use Rattle.walks.proofs.Walk.{enter, alloc1, alloc0, params1, pass1, pass0, first, exec, assigns-last, branches, whole, sub, look-in, FmC, fmOf, WpFn-mono, owns, Is, mem, pointee, u8, sliceVal, Room, slice-vals, ShrSlice, shr-slice-tells, sliceTy, shr-slice-copy, plain, shrSliceOf, onEntry, tripleOf, Contract, Triple, calls-at, calls-from-last, cited, needs, Stays, stay-dropped, walkOf, AllGo, goes-dropped, walked-at, walk-meets-at, yes, arith, true, mutual-elim, measured, at-on, Nat·lt-wfRel}
+use Rattle.walks.proofs.Data.{fits, word, flag, bytes}
+use Rattle.walks.proofs.Calls.{end, held, made, so, of, asks, came, came-last, full, leave, ends}
+use Rattle.walks.proofs.Lent.{lying, Shr}
+use Rattle.walks.proofs.After.{after}
+use lib.ListN.{take}
+use Rattle.settings.specs.Quorum.{largest, replicas}
+use Rattle.memory.specs.Layout.{memoryLength, settingsOf}
+use Rattle.blocks.specs.Store.{held as heldOf, descends as descendsOf}
+use Rattle.blocks.proofs.Ancestry.{is-true, is-false}
+use Rattle.release.specs.Search.{seen, lookOf, stepOf, targetFrom, stepsLeft}
+use Rattle.release.proofs.Search.{Follows, stepped}
+use Rattle.blocks.specs.declared.Block.{Block}
+use Rattle.release.specs.declared.Place.{Place}
+use Rattle.blocks.proofs.Types.{Blockᴿ, Blockᵀ, Blockᴰ, Foundᵀ, Foundᴰ, Found-block}
+use Rattle.release.proofs.Types.{Placeᴿ, Placeᵀ, Placeᴰ, Lookᵀ, Lookᴰ, Look-name, Look-count, Stepᵀ, Stepᴰ, Step-goes, Step-place, Step-target, Targetᵀ, Targetᴰ}
+use Rattle.release.proofs.look_at as look-at
+use Rattle.release.proofs.look_at.Symbol as look-at-def
+use Rattle.release.proofs.look_at.Met as look-at-thm
+use Rattle.blocks.proofs.held as held
+use Rattle.blocks.proofs.held.Symbol as held-def
+use Rattle.blocks.proofs.held.Met as held-thm
+use Rattle.blocks.proofs.descends as descends
+use Rattle.blocks.proofs.descends.Symbol as descends-def
+use Rattle.blocks.proofs.descends.Met as descends-thm
+use Rattle.release.proofs.next_step as next-step
+use Rattle.release.proofs.next_step.Symbol as next-step-def
+use Rattle.release.proofs.next_step.Met as next-step-thm
+use Rattle.release.proofs.target_from.Key.{name as #f}
+use Rattle.release.proofs.target_from as f
+use Rattle.release.proofs.+target_from as cycle
+use Rattle.release.proofs.+target_from.Code as code
+
+abbrev stayed : Stays (f.ended .signature .params) (f.ended .kept)
+stayed = (stay-dropped (shrSliceOf (0 ∷ []) tt (plain (λ _. u8))) yes, (stay-dropped (shrSliceOf (1 ∷ []) tt (plain (λ _. Blockᴿ))) yes, (stay-dropped (plain (λ _. Blockᴿ)) yes, (stay-dropped (plain (λ _. Placeᴿ)) yes, tt))))
+
+module _ {M : Type 1} (𝓤 : URA M) (H : Heap 𝓤) (A : Atoms 𝓤) (mem : Memory → SProp 𝓤) (run : Routine → Fun 𝓤) where
+  abbrev look-atᶜ : Contract 𝓤
+  look-atᶜ = tripleOf 𝓤 H A look-at.signature (look-at.spec 𝓤 H A mem run)
+
+  abbrev heldᶜ : Contract 𝓤
+  heldᶜ = tripleOf 𝓤 H A held.signature (held.spec 𝓤 H A mem run)
+
+  abbrev descendsᶜ : Contract 𝓤
+  descendsᶜ = tripleOf 𝓤 H A descends.signature (descends.spec 𝓤 H A mem run)
+
+  abbrev next-stepᶜ : Contract 𝓤
+  next-stepᶜ = tripleOf 𝓤 H A next-step.signature (next-step.spec 𝓤 H A mem run)
+
+  abbrev target-fromᶜ : Contract 𝓤
+  target-fromᶜ = tripleOf 𝓤 H A f.signature (f.spec 𝓤 H A mem run)
+
+  -- what is known of the callees
+  abbrev Known : Calls 𝓤 H → Type 1
+  Known C = Triple 𝓤 (C look-at-def.name) look-atᶜ × (Triple 𝓤 (C held-def.name) heldᶜ × (Triple 𝓤 (C descends-def.name) descendsᶜ × Triple 𝓤 (C next-step-def.name) next-stepᶜ))
+
+module _ {M : Type 1} (𝓤 : URA M) (H : Heap 𝓤) (A : Atoms 𝓤) (W : Given 𝓤 H A) (mem : Memory → SProp 𝓤) (run : Routine → Fun 𝓤) (κ0 κ1 : Lft) (q0 q1 : Share) (m-b m-o : ℕ) (m-γ : GName) (m : List ℕ) (ys-b ys-o : ℕ) (ys-γ : GName) (ys : List Block) (tip : Block) (p : Place)
+    (m-room : Room u8 (length m)) (ys-room : Room Blockᴿ (length ys)) (tip-is : Is Blockᴿ tip ((Blockᴰ .val tip) ∷ [])) (p-is : Is Placeᴿ p ((Placeᴰ .val p) ∷ [])) (asked : (memoryLength ≤ length m) × ((replicas (settingsOf m) ≤ largest) × (p .view + p .views < 2 ^ 63))) where
+  abbrev m-n : ℕ
+  m-n = length m
+
+  abbrev m-s : Val
+  m-s = sliceVal (m-b, m-o) m-n
+
+  abbrev ys-n : ℕ
+  ys-n = length ys
+
+  abbrev ys-s : Val
+  ys-s = sliceVal (ys-b, ys-o) ys-n
+
+  abbrev y : walkOf 𝓤 H A f.ended stayed (f.clauses 𝓤 H A mem run) .Ghost
+  y = (((κ0, (κ1, tt)), (q0, (q1, tt)), tt, (lying u8 m-b m-o m-γ m, (lying Blockᴿ ys-b ys-o ys-γ ys, (tip, (p, tt)))), (m-s ∷ [], (ys-s ∷ [], ((Blockᴰ .val tip) ∷ [], ((Placeᴰ .val p) ∷ [], tt))))), tt)
+
+  abbrev Post : Val → SProp 𝓤
+  Post = walkOf 𝓤 H A f.ended stayed (f.clauses 𝓤 H A mem run) .post y
+
+  abbrev En : (l₀ l₁ l₂ l₃ l₄ l₅ l₆ l₇ l₈ l₉ l₁₀ : ℕ) → Env 𝓤 H
+  En l₀ l₁ l₂ l₃ l₄ l₅ l₆ l₇ l₈ l₉ l₁₀ = (Targetᵀ, l₀) ∷ (sliceTy (tyRef (named 0) imm (tyInt w8)), l₁) ∷ (sliceTy (tyRef (named 1) imm (pointee (Blockᴿ .written))), l₂) ∷ (Blockᵀ, l₃) ∷ (Placeᵀ, l₄) ∷ (Lookᵀ, l₅) ∷ (Foundᵀ, l₆) ∷ (tyBool, l₇) ∷ (Stepᵀ, l₈) ∷ (tyBool, l₉) ∷ (Targetᵀ, l₁₀) ∷ []
+
+  abbrev after-6 : Body
+  after-6 = after (after (after (after (after (after (code.target-from-function .body))))))
+
+  walk : (C : Calls 𝓤 H) (Λ : Loops 𝓤 H) → FmC 𝓤 H (W .laws) C → Known 𝓤 H A mem run C
+      → ((y′ : target-fromᶜ 𝓤 H A mem run .Ghost) → stepsLeft (y′ .0 .3 .1 .1 .1 .0) < stepsLeft (p) → ent 𝓤 (target-fromᶜ 𝓤 H A mem run .pre y′) (C #f (target-fromᶜ 𝓤 H A mem run .args y′) (target-fromᶜ 𝓤 H A mem run .post y′)))
+      → ent 𝓤 (onEntry 𝓤 H A f.signature (κ0, (κ1, tt)) (q0, (q1, tt)) (y .0 .3) (y .0 .4)) (WpFn 𝓤 H C Λ code.target-from-function (m-s ∷ ys-s ∷ (Blockᴰ .val tip) ∷ (Placeᴰ .val p) ∷ []) Post)
+  walk C Λ fm known self =
+      qed W ((‵ (flft κ0 q0) ⊛ (‵ (flft κ1 q1) ⊛ ‵ ftrue)) ∷ ‵ (owns (ShrSlice (named 0) κ0 u8 ∷ ShrSlice (named 1) κ1 Blockᴿ ∷ Blockᴿ ∷ Placeᴿ ∷ []) (y .0 .3) (y .0 .4)) ∷ []) ∵ enter ! C Λ code.target-from-function (m-s ∷ ys-s ∷ (Blockᴰ .val tip) ∷ (Placeᴰ .val p) ∷ []) _ $
+      alloc1 ! (λ l₀. alloc1 ! (λ l₁. alloc1 ! (λ l₂. alloc1 ! (λ l₃. alloc1 ! (λ l₄. alloc1 ! (λ l₅. alloc1 ! (λ l₆. alloc1 ! (λ l₇. alloc1 ! (λ l₈. alloc1 ! (λ l₉. alloc1 ! (λ l₁₀. alloc0 ! $ params1 ! $ pass1 ! (init ! 18 refl (tt, (tt, (record { fits = m-room .0 }, tt)))) $ pass1 ! (init ! 16 refl (tt, (tt, (record { fits = ys-room .0 }, tt)))) $ pass1 ! (init ! 14 refl (fits W Blockᴰ tip tip-is .0)) $ pass1 ! (init ! 12 refl (fits W Placeᴰ p p-is .0)) $ pass0 ! $ move ! (22 ∷ []) $ split ! $ move ! (1 ∷ []) $ split ! $ move ! (1 ∷ []) $ drop ! $ move ! (24 ∷ []) $ fsplit ! $ move ! (1 ∷ []) $ fsplit ! $ move ! (1 ∷ []) $ fsplit ! $ drop ! $ fsplit ! $ drop ! $ drop ! $
+      -- call 0: `release::look_at`
+      move ! (1 ∷ []) $ use1 W (‵ (Shr u8 κ0 m-b m-o m-γ m-n m) ⊛ ‵ (Shr u8 κ0 m-b m-o m-γ m-n m)) (shr-slice-copy 𝓤 H A W (named 0) κ0 u8 .twice (lying u8 m-b m-o m-γ m) (m-s ∷ [])) $ split ! $
+      let y0 : look-atᶜ 𝓤 H A mem run .Ghost = (((κ0, tt), (q0, tt), tt, (lying u8 m-b m-o m-γ m, (p, tt)), (m-s ∷ [], ((Placeᴰ .val p) ∷ [], tt))), tt) in move ! (4 ∷ 0 ∷ []) $ asks ! look-at.ended (look-at.clauses 𝓤 H A mem run) y0 2 (held (of W Placeᴰ p p-is end)) refl (so 𝓤 (asked .0, asked .1 .0)) $ calls-at ! fm (look-atᶜ 𝓤 H A mem run) (known .0) y0 (and-then ! (load ! (from ! (stop !)) (look ! 22 refl)) (and-then ! (load ! (from ! (stop !)) (look ! 16 refl)) (no-more !))) (λ w0. came ! look-at.ended (look-at.clauses 𝓤 H A mem run) y0 w0 Lookᴰ 13 refl refl ([]) (λ r ws. r ≡ lookOf m p) (λ r ws. id⊢ 𝓤 _) (λ r0 ws0 is0 e0.
+      -- call 1: `blocks::held`
+      move ! (2 ∷ []) $ use1 W (‵ (Shr Blockᴿ κ1 ys-b ys-o ys-γ ys-n ys) ⊛ ‵ (Shr Blockᴿ κ1 ys-b ys-o ys-γ ys-n ys)) (shr-slice-copy 𝓤 H A W (named 0) κ1 Blockᴿ .twice (lying Blockᴿ ys-b ys-o ys-γ ys) (ys-s ∷ [])) $ split ! $
+      let y1 : heldᶜ 𝓤 H A mem run .Ghost = (((κ1, tt), (q1, tt), tt, (lying Blockᴿ ys-b ys-o ys-γ ys, ((r0 .count), (tip, ((r0 .name), tt)))), (ys-s ∷ [], ((word .val (r0 .count)) ∷ [], ((Blockᴰ .val tip) ∷ [], (((bytes 32) .val (r0 .name)) ∷ [], tt))))), tt) in move ! (4 ∷ 0 ∷ []) $ asks ! held.ended (held.clauses 𝓤 H A mem run) y1 2 (held (of W word (r0 .count) (Look-count r0 is0) (of W Blockᴰ tip tip-is (of W (bytes 32) (r0 .name) (Look-name r0 is0) end)))) refl (id⊢ 𝓤 _) $ calls-at ! fm (heldᶜ 𝓤 H A mem run) (known .1 .0) y1 (and-then ! (load ! (from ! (stop !)) (look ! 20 refl)) (and-then ! (load ! (from ! (fld ! refl (stop !))) (look-in ! 14 (sub ! 2 refl (whole !)))) (and-then ! (load ! (from ! (stop !)) (look ! 18 refl)) (and-then ! (load ! (from ! (fld ! refl (stop !))) (look-in ! 14 (sub ! 1 refl (whole !)))) (no-more !))))) (λ w1. came ! held.ended (held.clauses 𝓤 H A mem run) y1 w1 Foundᴰ 11 refl refl ([]) (λ r ws. r ≡ heldOf tip (take (r0 .count) ys) (r0 .name)) (λ r ws. id⊢ 𝓤 _) (λ r1 ws1 is1 e1.
+      -- call 2: `blocks::descends`
+      move ! (1 ∷ []) $ use1 W (‵ (Shr Blockᴿ κ1 ys-b ys-o ys-γ ys-n ys) ⊛ ‵ (Shr Blockᴿ κ1 ys-b ys-o ys-γ ys-n ys)) (shr-slice-copy 𝓤 H A W (named 0) κ1 Blockᴿ .twice (lying Blockᴿ ys-b ys-o ys-γ ys) (ys-s ∷ [])) $ split ! $
+      let y2 : descendsᶜ 𝓤 H A mem run .Ghost = (((κ1, tt), (q1, tt), tt, (lying Blockᴿ ys-b ys-o ys-γ ys, ((r0 .count), (tip, ((r1 .block), tt)))), (ys-s ∷ [], ((word .val (r0 .count)) ∷ [], ((Blockᴰ .val tip) ∷ [], ((Blockᴰ .val (r1 .block)) ∷ [], tt))))), tt) in move ! (2 ∷ 0 ∷ []) $ asks ! descends.ended (descends.clauses 𝓤 H A mem run) y2 2 (held (of W word (r0 .count) (Look-count r0 is0) (of W Blockᴰ tip tip-is (of W Blockᴰ (r1 .block) (Found-block r1 is1) end)))) refl (id⊢ 𝓤 _) $ calls-at ! fm (descendsᶜ 𝓤 H A mem run) (known .1 .1 .0) y2 (and-then ! (load ! (from ! (stop !)) (look ! 20 refl)) (and-then ! (load ! (from ! (fld ! refl (stop !))) (look-in ! 14 (sub ! 2 refl (whole !)))) (and-then ! (load ! (from ! (stop !)) (look ! 18 refl)) (and-then ! (load ! (from ! (fld ! refl (stop !))) (look-in ! 12 (sub ! 1 refl (whole !)))) (no-more !))))) (λ w2. came ! descends.ended (descends.clauses 𝓤 H A mem run) y2 w2 flag 9 refl refl ([]) (λ r ws. r ≡ descendsOf tip (take (r0 .count) ys) (r1 .block)) (λ r ws. id⊢ 𝓤 _) (λ r2 ws2 is2 e2.
+      -- call 3: `release::next_step`
+      let y3 : next-stepᶜ 𝓤 H A mem run .Ghost = ((tt, tt, tt, (p, (r0, (r1, (r2, tt)))), ((Placeᴰ .val p) ∷ [], ((Lookᴰ .val r0) ∷ [], ((Foundᴰ .val r1) ∷ [], ((flag .val r2) ∷ [], tt))))), tt) in asks ! next-step.ended (next-step.clauses 𝓤 H A mem run) y3 0 (of W Placeᴰ p p-is (of W Lookᴰ r0 is0 (of W Foundᴰ r1 is1 (of W flag r2 is2 end)))) refl (so 𝓤 (omega (arith, asked .1 .1))) $ calls-at ! fm (next-stepᶜ 𝓤 H A mem run) (known .1 .1 .1) y3 (and-then ! (load ! (from ! (stop !)) (look ! 17 refl)) (and-then ! (load ! (from ! (stop !)) (look ! 15 refl)) (and-then ! (load ! (from ! (stop !)) (look ! 13 refl)) (and-then ! (load ! (from ! (stop !)) (look ! 11 refl)) (no-more !))))) (λ w3. came ! next-step.ended (next-step.clauses 𝓤 H A mem run) y3 w3 Stepᴰ 8 refl refl ([]) (λ r ws. r ≡ stepOf p r0 r1 r2) (λ r ws. id⊢ 𝓤 _) (λ r3 ws3 is3 e3. assigns ! (of-opd ! (load ! (from ! (fld ! refl (stop !))) (look-in ! 8 (sub ! 0 refl (whole !))))) (from ! (stop !)) (init ! 6 refl (fits W flag (r3 .goes) (Step-goes r3 is3) .0)) $ first ! $ branches ! (load ! (from ! (stop !)) (look ! 6 refl))
+      (λ yes0.
+      let way : Follows p (seen tip m ys) r3 = stepped tip m ys p r0 r1 r2 r3 e0 e1 e2 e3 in
+      let going : r3 .goes ≡ true = is-true (r3 .goes) yes0 in
+      -- call 4: `release::target_from`
+      move ! (3 ∷ []) $ use1 W (‵ (Shr u8 κ0 m-b m-o m-γ m-n m) ⊛ ‵ (Shr u8 κ0 m-b m-o m-γ m-n m)) (shr-slice-copy 𝓤 H A W (named 0) κ0 u8 .twice (lying u8 m-b m-o m-γ m) (m-s ∷ [])) $ split ! $ move ! (3 ∷ []) $ use1 W (‵ (Shr Blockᴿ κ1 ys-b ys-o ys-γ ys-n ys) ⊛ ‵ (Shr Blockᴿ κ1 ys-b ys-o ys-γ ys-n ys)) (shr-slice-copy 𝓤 H A W (named 0) κ1 Blockᴿ .twice (lying Blockᴿ ys-b ys-o ys-γ ys) (ys-s ∷ [])) $ split ! $
+      let y4 : target-fromᶜ 𝓤 H A mem run .Ghost = (((κ0, (κ1, tt)), (q0, (q1, tt)), tt, (lying u8 m-b m-o m-γ m, (lying Blockᴿ ys-b ys-o ys-γ ys, (tip, ((r3 .place), tt)))), (m-s ∷ [], (ys-s ∷ [], ((Blockᴰ .val tip) ∷ [], ((Placeᴰ .val (r3 .place)) ∷ [], tt))))), tt) in move ! (5 ∷ 4 ∷ 2 ∷ 0 ∷ []) $ asks ! f.ended (f.clauses 𝓤 H A mem run) y4 4 (held (held (of W Blockᴰ tip tip-is (of W Placeᴰ (r3 .place) (Step-place r3 is3) end)))) refl (so 𝓤 (asked .0, (asked .1 .0, omega (arith, asked .1 .1, way .within going)))) $ calls-from-last ! fm (raw (target-fromᶜ 𝓤 H A mem run .pre y4)) (target-fromᶜ 𝓤 H A mem run .args y4) (target-fromᶜ 𝓤 H A mem run .post y4) (self y4 (way .less going (asked .1 .0))) (and-then ! (load ! (from ! (stop !)) (look ! 21 refl)) (and-then ! (load ! (from ! (stop !)) (look ! 19 refl)) (and-then ! (load ! (from ! (stop !)) (look ! 17 refl)) (and-then ! (load ! (from ! (fld ! refl (stop !))) (look-in ! 7 (sub ! 1 refl (whole !)))) (no-more !))))) (λ w4. came-last ! f.ended (f.clauses 𝓤 H A mem run) y4 w4 Targetᴰ 2 refl refl ([]) (λ r ws. r ≡ targetFrom (r3 .place) (seen tip m ys)) (λ r ws. id⊢ 𝓤 _) (λ r4 ws4 is4 e4. exec ! C Λ (En l₀ l₁ l₂ l₃ l₄ l₅ l₆ l₇ l₈ l₉ l₁₀) after-6 (atRet (En l₀ l₁ l₂ l₃ l₄ l₅ l₆ l₇ l₈ l₉ l₁₀) Post) $ assigns ! (of-opd ! (load ! (from ! (stop !)) (look ! 4 refl))) (from ! (stop !)) (init ! 24 refl (fits W Targetᴰ r4 is4 .0)) $
+      -- the exit
+      returns ! (look ! 24 refl) $ leave ! 4 (full _ ∷ full _ ∷ full _ ∷ full _ ∷ full _ ∷ full _ ∷ full _ ∷ full _ ∷ full _ ∷ full _ ∷ full _ ∷ []) refl $ keep ! (0 ∷ 1 ∷ []) $ ends W f.ended stayed (f.clauses 𝓤 H A mem run) y (Targetᴰ .val r4) r4 (tt, (tt, (tt, (tt, tt)))) (tt, (tt, (tt, (tt, tt)))) (Targetᴰ .makes 𝓤 H A W r4 _ is4) (so 𝓤 (e4 ∙ sym (way .on going))) (made (id⊢ 𝓤 _) (made (id⊢ 𝓤 _) (made (id⊢ 𝓤 _) (made (id⊢ 𝓤 _) end)))))))
+      (λ no0.
+      let way : Follows p (seen tip m ys) r3 = stepped tip m ys p r0 r1 r2 r3 e0 e1 e2 e3 in assigns-last ! (of-opd ! (load ! (from ! (fld ! refl (stop !))) (look-in ! 8 (sub ! 2 refl (whole !))))) (from ! (stop !)) (init ! 4 refl (fits W Targetᴰ (r3 .target) (Step-target r3 is3) .0)) $ exec ! C Λ (En l₀ l₁ l₂ l₃ l₄ l₅ l₆ l₇ l₈ l₉ l₁₀) after-6 (atRet (En l₀ l₁ l₂ l₃ l₄ l₅ l₆ l₇ l₈ l₉ l₁₀) Post) $ assigns ! (of-opd ! (load ! (from ! (stop !)) (look ! 4 refl))) (from ! (stop !)) (init ! 24 refl (fits W Targetᴰ (r3 .target) (Step-target r3 is3) .0)) $
+      -- the exit
+      returns ! (look ! 24 refl) $ leave ! 4 (full _ ∷ full _ ∷ full _ ∷ full _ ∷ full _ ∷ full _ ∷ full _ ∷ full _ ∷ full _ ∷ full _ ∷ full _ ∷ []) refl $ keep ! (2 ∷ 0 ∷ []) $ ends W f.ended stayed (f.clauses 𝓤 H A mem run) y (Targetᴰ .val (r3 .target)) (r3 .target) (tt, (tt, (tt, (tt, tt)))) (tt, (tt, (tt, (tt, tt)))) (Targetᴰ .makes 𝓤 H A W (r3 .target) _ (Step-target r3 is3)) (so 𝓤 (sym (way .off (is-false (r3 .goes) no0)))) (made (id⊢ 𝓤 _) (made (id⊢ 𝓤 _) (made (id⊢ 𝓤 _) (made (id⊢ 𝓤 _) end))))))))))))))))))))))))
+
+module _ {M : Type 1} (𝓤 : URA M) (H : Heap 𝓤) (A : Atoms 𝓤) (W : Given 𝓤 H A) (mem : Memory → SProp 𝓤) (run : Routine → Fun 𝓤) where
+  goes : AllGo 𝓤 H A W 2 (f.signature .params) (f.ended .kept) stayed
+  goes = (goes-dropped 𝓤 H A W 2 (shrSliceOf (0 ∷ []) tt (plain (λ _. u8))) yes (λ κs x f. refl), (goes-dropped 𝓤 H A W 2 (shrSliceOf (1 ∷ []) tt (plain (λ _. Blockᴿ))) yes (λ κs x f. refl), (goes-dropped 𝓤 H A W 2 (plain (λ _. Blockᴿ)) yes (λ κs x f. refl), (goes-dropped 𝓤 H A W 2 (plain (λ _. Placeᴿ)) yes (λ κs x f. refl), tt))))
+
+  -- the contract at one choice of what the triple binds outside, from the contract where the measure is less
+  meets-at : (𝓣 : Tables 𝓤 H) → Known 𝓤 H A mem run (𝓣 .C) → (y : target-fromᶜ 𝓤 H A mem run .Ghost)
+      → ((y′ : target-fromᶜ 𝓤 H A mem run .Ghost) → stepsLeft (y′ .0 .3 .1 .1 .1 .0) < stepsLeft (y .0 .3 .1 .1 .1 .0) → ent 𝓤 (target-fromᶜ 𝓤 H A mem run .pre y′) (𝓣 .C #f (target-fromᶜ 𝓤 H A mem run .args y′) (target-fromᶜ 𝓤 H A mem run .post y′)))
+      → ent 𝓤 (target-fromᶜ 𝓤 H A mem run .pre y) (WpFn 𝓤 H (𝓣 .C) (𝓣 .Λ) code.target-from-function (target-fromᶜ 𝓤 H A mem run .args y) (target-fromᶜ 𝓤 H A mem run .post y))
+  meets-at 𝓣 known y self =
+      let κs = y .0 .0 in let qs = y .0 .1 in let a = y .0 .3 in
+      walk-meets-at 𝓤 H A f.ended stayed W goes (f.clauses 𝓤 H A mem run) (WpFn 𝓤 H (𝓣 .C) (𝓣 .Λ) code.target-from-function) (WpFn-mono 𝓤 H (W .laws) 𝓣 code.target-from-function) y
+      (walked-at 𝓤 H A f.ended stayed (f.clauses 𝓤 H A mem run) (WpFn 𝓤 H (𝓣 .C) (𝓣 .Λ) code.target-from-function) y (slice-vals, (slice-vals, ((λ x. Blockᴰ .val x ∷ []), ((λ x. Placeᴰ .val x ∷ []), tt)))) (shr-slice-tells (named 0) (κs .0) u8, (shr-slice-tells (named 1) (κs .1 .0) Blockᴿ, (Blockᴰ .tells, (Placeᴰ .tells, tt))))
+      (λ are. needs 𝓤 ((memoryLength ≤ length (a .0 .now)) × ((replicas (settingsOf (a .0 .now)) ≤ largest) × ((a .1 .1 .1 .0) .view + (a .1 .1 .1 .0) .views < 2 ^ 63))) _ (λ asked. walk 𝓤 H A W mem run (κs .0) (κs .1 .0) (qs .0) (qs .1 .0) (a .0 .ptr .0) (a .0 .ptr .1) (a .0 .name) (a .0 .now) (a .1 .0 .ptr .0) (a .1 .0 .ptr .1) (a .1 .0 .name) (a .1 .0 .now) (a .1 .1 .0) (a .1 .1 .1 .0) (are .0 .0 .1) (are .1 .0 .0 .1) (are .1 .1 .0) (are .1 .1 .1 .0) asked (𝓣 .C) (𝓣 .Λ) (fmOf 𝓤 H (W .laws) 𝓣) known self)))
+
+pub +target-from-spec : {M : Type 1} → cycle.statement M
+unfolding code.target-from-routine tablesOf
++target-from-spec 𝓤 H 𝓜 𝓖 𝓡 =
+    mutual-elim 𝓤 H (𝓖 .A) (cycle.functions 𝓤 H (𝓖 .A) (𝓜 .mem) (𝓡 .run)) _<_ (Nat·lt-wfRel .wf)
+    (measured 𝓤 H (𝓖 .A) (record { signature = f.signature; run = 𝓡 .run code.target-from-routine; spec = f.spec 𝓤 H (𝓖 .A) (𝓜 .mem) (𝓡 .run) }) (λ y′. stepsLeft (y′ .0 .3 .1 .1 .1 .0)))
+    (λ t smaller. at-on 𝓤 H (𝓖 .A) f.signature (f.spec 𝓤 H (𝓖 .A) (𝓜 .mem) (𝓡 .run)) (WpFn 𝓤 H (tables 𝓤 H 𝓜 𝓡 code.env .C) (tables 𝓤 H 𝓜 𝓡 code.env .Λ) code.target-from-function) (𝓡 .run code.target-from-routine) (code.target-from-unfolded 𝓤 H 𝓜 𝓡) (λ y′. stepsLeft (y′ .0 .3 .1 .1 .1 .0)) t
+    (λ y e. meets-at 𝓤 H (𝓖 .A) (givenOf 𝓤 H 𝓜 𝓖) (𝓜 .mem) (𝓡 .run) (tablesOf 𝓤 H 𝓜 (tables 𝓤 H 𝓜 𝓡 code.env))
+    (cited 𝓤 H (look-atᶜ 𝓤 H (𝓖 .A) (𝓜 .mem) (𝓡 .run)) 𝓜 𝓡 code.env look-at-def.name look-at-def.routine code.calls-release·look-at (look-at-thm.met 𝓤 H 𝓜 𝓖 𝓡), (cited 𝓤 H (heldᶜ 𝓤 H (𝓖 .A) (𝓜 .mem) (𝓡 .run)) 𝓜 𝓡 code.env held-def.name held-def.routine code.calls-blocks·held (held-thm.met 𝓤 H 𝓜 𝓖 𝓡), (cited 𝓤 H (descendsᶜ 𝓤 H (𝓖 .A) (𝓜 .mem) (𝓡 .run)) 𝓜 𝓡 code.env descends-def.name descends-def.routine code.calls-blocks·descends (descends-thm.met 𝓤 H 𝓜 𝓖 𝓡), cited 𝓤 H (next-stepᶜ 𝓤 H (𝓖 .A) (𝓜 .mem) (𝓡 .run)) 𝓜 𝓡 code.env next-step-def.name next-step-def.routine code.calls-release·next-step (next-step-thm.met 𝓤 H 𝓜 𝓖 𝓡)))) y
+    (λ y′ less. smaller (stepsLeft (y′ .0 .3 .1 .1 .1 .0)) (subst (λ (n : ℕ). stepsLeft (y′ .0 .3 .1 .1 .1 .0) < n) e less) y′ refl)))

@@ -1,0 +1,6 @@
+pub mod Types
+pub mod Search
+pub mod Regular
+pub mod Putting
+pub mod Releasing
+pub mod Turning

@@ -1,0 +1,349 @@
+-- One release is `release` of protocol, and the releases one after another are `again`: the laws of `release_all`. Assumes nothing.
+use Prim.Native.Nat.{ℕ, zero, suc, _+_, _-_, _*_, _≤_, _<_}
+use native.Mathlib.Omega.{arith}
+use mathlib.Core.Path.{_≡_, refl, sym, ap, _∙_}
+use mathlib.Core.Bool.{Bool, true, false, cond, _&&_, false≢true, true≢false}
+use mathlib.Core.List.{List, [], _∷_, _++_}
+use borrow.Author.Tests.{lt-ltb, ltb-true}
+use lib.Dec.{ltb}
+use lib.ListN.{length, take, drop, set, length-append, take-append-drop}
+use lib.Seq.{sets, sets-eq, length-take-le, take-append-seam, drop-append-add, drop-drop}
+use Rattle.settings.specs.declared.View.{View}
+use Rattle.codec.specs.Bytes.{patch}
+use Rattle.codec.proofs.Laws.{length-patch}
+use Rattle.codec.proofs.Order.{and-true}
+use Rattle.wire.specs.Fields.{releaseLength}
+use Rattle.blocks.specs.declared.Block.{Block}
+use Rattle.blocks.specs.Store.{descends, ancestry, releases, kept, dropped}
+use Rattle.blocks.proofs.Kept.{dropped-held}
+use Rattle.blocks.proofs.Linked.{In}
+use Rattle.blocks.proofs.Fewer.{held-entry, released-fewer}
+use Rattle.memory.specs.Layout.{blockCountOf, withBlockCount}
+use Rattle.memory.specs.Window.{lowest, highest}
+use Rattle.memory.proofs.Header.{length-with-count}
+use Rattle.counters.specs.declared.Counters.{Counters}
+use Rattle.counters.specs.Counters.{releasing}
+use Rattle.protocol.specs.Work.{Work, own, viewNow, tip, blocks, heldBlock, release}
+use Rattle.protocol.specs.Refusals.{regular}
+use Rattle.protocol.specs.Rules.{Pair, lowestPair, ballotViews, ruleD, again}
+use Rattle.protocol.proofs.Output.{lowest-is}
+use Rattle.act.specs.declared.Draft.{Draft}
+use Rattle.act.specs.Draft.{workOf, Left, left, leftBy, Ready}
+use Rattle.release.specs.Search.{standing, knownBy, noTarget, target, targetOf, lowestTarget}
+use Rattle.release.specs.Released.{recordsOf, Releases, Released, ReleasedIf, firstTurn, allowedOf, nextTurn, draftAt, Turned, ByTurns, finishedOf}
+use Rattle.release.specs.declared.Target.{Target}
+use Rattle.release.specs.declared.Turn.{Turn}
+use Rattle.release.proofs.Search.{pair-bare, target-standing}
+use Rattle.release.proofs.Regular.{bounded, regular-same, count-after, release-regular}
+
+-- ---- RULE D IN TERMS OF THE TARGET
+module _ (W : Work) where
+  abbrev pair : Pair
+  pair = lowestPair (lowest (viewNow W)) (ballotViews W) W
+
+  target-is : lowestTarget W .is ≡ pair .name .some
+  unfolding lowestTarget targetOf
+  target-is = go (pair .name .some)
+    where
+      go : (s : Bool) → cond s (target (pair .at) (heldBlock W (pair .name .name) .block)) noTarget .is ≡ s
+      go true = refl
+      go false = refl
+
+  runs : lowestTarget W .is ≡ true → ruleD W ≡ release (lowestTarget W .view .0) (lowestTarget W .block) W
+  unfolding ruleD lowestTarget targetOf
+  runs h = let e : pair .name .some ≡ true = sym target-is ∙ h in rw e refl
+
+  rests : lowestTarget W .is ≡ false → ruleD W ≡ W
+  unfolding ruleD
+  rests h = let e : pair .name .some ≡ false = sym target-is ∙ h in rw e refl
+
+  -- what is released is held and descends from the tip
+  target-down : lowestTarget W .is ≡ true → (descends (tip W) (blocks W) (lowestTarget W .block) ≡ true) × In (lowestTarget W .block) (blocks W)
+  unfolding lowestTarget targetOf
+  target-down h =
+      let e : pair .name .some ≡ true = sym target-is ∙ h in
+      let r = lowest-is (lowest (viewNow W)) (ballotViews W) W e in
+      rw e (r .leads, held-entry (tip W) (blocks W) (pair .name .name) (r .is) (r .leads))
+
+-- "until none applies": once there is nothing to release, there is nothing
+again-rests : (k : ℕ) (W : Work) → lowestTarget W .is ≡ false → again k W ≡ W
+unfolding again
+again-rests zero W h = refl
+again-rests (suc k) W h = ap (again k) (rests W h) ∙ again-rests k W h
+
+again-over : (k : ℕ) (W : Work) → (lowestTarget W .is && ltb 0 k) ≡ false → again k W ≡ W
+unfolding again
+again-over zero W h = refl
+again-over (suc k) W h = go (lowestTarget W .is) refl h
+  where
+    go : (t : Bool) → lowestTarget W .is ≡ t → (t && ltb 0 (suc k)) ≡ false → again (suc k) W ≡ W
+    go true e h = absurd (true≢false (sym (lt-ltb 0 (suc k) (omega arith)) ∙ h))
+    go false e h = again-rests (suc k) W e
+
+again-more : (k : ℕ) (W : Work) → 0 < k → again k W ≡ again (k - 1) (ruleD W)
+unfolding again
+again-more zero W h = absurd (omega (arith, h))
+again-more (suc k) W h = let e : suc k - 1 ≡ k = omega arith in rw e refl
+
+-- ---- THE OUTPUT REGION
+patch-sets : (o : List ℕ) (at : ℕ) (v : List ℕ) → patch o at v ≡ sets o at v
+unfolding patch
+patch-sets o at [] = refl
+patch-sets o at (x ∷ v) = patch-sets (set o at x) (suc at) v
+
+length-written : (o v : List ℕ) (at : ℕ) → at ≤ length o → length (take at o ++ v) ≡ at + length v
+length-written o v at h = length-append (take at o) v ∙ ap (λ (k : ℕ). k + length v) (length-take-le at o h)
+
+-- what is put behind the written bytes is what is written more, and the bytes after it stay
+patched : (o v : List ℕ) (at : ℕ) → at + length v ≤ length o → patch o at v ≡ (take at o ++ v) ++ drop (length (take at o ++ v)) o
+patched o v at h = patch-sets o at v ∙ sets-eq v o at h ∙ ap (λ (k : ℕ). (take at o ++ v) ++ drop k o) (sym (length-written o v at (omega arith)))
+
+-- nothing more is written
+pub left-same : (d : Draft) (m o : List ℕ) (s : List Block) → d .at ≤ length o → left d m o s ≡ leftBy (workOf d m o s) o
+left-same d m o s h =
+    let n : length (take (d .at) o) ≡ d .at = length-take-le (d .at) o h in
+    rw n (let e : o ≡ take (d .at) o ++ drop (d .at) o = sym (take-append-drop (d .at) o) in ap (λ (z : List ℕ). left d m z s) e)
+
+-- a step from what another has left
+work-same : (e : Draft) (m o o′ : List ℕ) (s : List Block) (W : Work) → left e m o′ s ≡ leftBy W o → workOf e m o′ s ≡ W
+work-same e m o o′ s W h =
+    let out : take (e .at) o′ ≡ W .out =
+    ap (λ (l : Left). take (l .at) (l .output)) h ∙ take-append-seam (W .out) (drop (length (W .out)) o) in
+    ap (λ (l : Left). record { counters = l .counters; memory = l .memory; store = l .store; out = take (e .at) o′ }) h
+    ∙ ap (λ (z : List ℕ). record { counters = W .counters; memory = W .memory; store = W .store; out = z }) out
+
+drop-over : (n : ℕ) (a o : List ℕ) → length a ≤ n → drop n (a ++ drop (length a) o) ≡ drop n o
+drop-over n a o h =
+    let k = n - length a in
+    let e : n ≡ length a + k = omega arith in
+    ap (λ (z : ℕ). drop z (a ++ drop (length a) o)) e ∙ drop-append-add a (drop (length a) o) k ∙ drop-drop k (length a) o ∙ ap (λ (z : ℕ). drop z o) (sym e)
+
+left-over : (W X : Work) (o : List ℕ) → length (W .out) ≤ length (X .out) → leftBy X (W .out ++ drop (length (W .out)) o) ≡ leftBy X o
+left-over W X o h = rw (drop-over (length (X .out)) (W .out) o h) refl
+
+-- ---- the releases only add to it
+release-grows : (v : ℕ) (b : Block) (W : Work) → length (W .out) ≤ length (release v b W .out)
+unfolding release
+release-grows v b W = omega (arith, length-append (W .out) (releases (own W) v (ancestry (tip W) (blocks W) b)))
+
+rule-grows : (W : Work) → length (W .out) ≤ length (ruleD W .out)
+rule-grows W = go (lowestTarget W .is) refl
+  where
+    go : (t : Bool) → lowestTarget W .is ≡ t → length (W .out) ≤ length (ruleD W .out)
+    go true h = rw (runs W h) (release-grows (lowestTarget W .view .0) (lowestTarget W .block) W)
+    go false h = rw (rests W h) (omega arith)
+
+again-grows : (k : ℕ) (W : Work) → length (W .out) ≤ length (again k W .out)
+unfolding again
+again-grows zero W = omega arith
+again-grows (suc k) W = omega (arith, rule-grows W, again-grows k (ruleD W))
+
+-- ---- ONE TURN IN PLACE
+module _ (r : Turn) (m o : List ℕ) (s : List Block) where
+  abbrev d : Draft
+  d = draftAt r
+
+  abbrev W₀ : Work
+  W₀ = workOf d m o s
+
+  module _ (R : Ready d m o (releaseLength * length (take (blockCountOf m) s))) (low t : Target) (e₀ : low ≡ lowestTarget (standing (knownBy (r .view) (r .tip)) m s)) (e : t ≡ allowedOf low r) where
+    is-W₀ : regular W₀ ≡ true
+    is-W₀ = regular-same (workOf d m o []) W₀ refl refl (R .regular)
+
+    -- the target, while turns are left
+    is-allowed : t .is ≡ (lowestTarget W₀ .is && ltb 0 (r .left))
+    is-allowed = ap (λ (z : Target). z .is) e ∙ ap (λ (z : Target). z .is && ltb 0 (r .left)) (e₀ ∙ sym (target-standing W₀))
+
+    module _ (h : t .is ≡ true) where
+      abbrev W₁ : Work
+      W₁ = release (t .view .0) (t .block) W₀
+
+      both : (lowestTarget W₀ .is ≡ true) × (ltb 0 (r .left) ≡ true)
+      both = and-true (lowestTarget W₀ .is) (ltb 0 (r .left)) (sym is-allowed ∙ h)
+
+      low-is : low ≡ lowestTarget W₀
+      low-is = e₀ ∙ sym (target-standing W₀)
+
+      view-is : t .view ≡ lowestTarget W₀ .view
+      view-is = ap (λ (z : Target). z .view) e ∙ ap (λ (z : Target). z .view) low-is
+
+      block-is : t .block ≡ lowestTarget W₀ .block
+      block-is = ap (λ (z : Target). z .block) e ∙ ap (λ (z : Target). z .block) low-is
+
+      down : (descends (r .tip) (blocks W₀) (t .block) ≡ true) × In (t .block) (blocks W₀)
+      down = rw block-is (target-down W₀ (both .0))
+
+      fewer : length (ancestry (r .tip) (blocks W₀) (t .block)) + length (kept (t .block) (blocks W₀)) ≤ length (blocks W₀)
+      fewer = released-fewer (r .tip) (blocks W₀) (t .block) (down .0) (down .1)
+
+      -- it can be released
+      pub may-release : Releases (r .tip) (r .at) t m o s
+      may-release = record { long = R .long; few = bounded W₀ is-W₀ .room; down = down .0; room = omega (arith, R .room, fewer) }
+
+      pub turns-left : 1 ≤ r .left
+      turns-left = omega (arith, ltb-true 0 (r .left) (both .1))
+
+      module _ (at : ℕ) (m₁ o₁ : List ℕ) (s₁ : List Block) (done : Released (r .tip) (r .at) t m o s at m₁ o₁ s₁) where
+        abbrev d₁ : Draft
+        d₁ = record { counters = knownBy (r .view) (t .block); at = at }
+
+        leaves : left d₁ m₁ o₁ s₁ ≡ leftBy W₁ o
+        unfolding release releasing
+        leaves =
+            let a = r .at in
+            let w = recordsOf (r .tip) a t m o s in
+            let fits : a + length w ≤ length o = omega (arith, may-release .room, done .size) in
+            let n : at ≡ length (take a o ++ w) = omega (arith, done .place, done .size, length-written o w a (omega (arith, fits))) in
+            rw (done .memory, done .store, done .output ∙ patched o w a fits)
+            (ap (λ (z : ℕ). record { counters = knownBy (r .view) (t .block); at = z; memory = withBlockCount m (length (kept (t .block) (take (blockCountOf m) s))); output = (take a o ++ w) ++ drop (length (take a o ++ w)) o; store = dropped (t .block) (blockCountOf m) s }) n)
+
+        work-is : workOf d₁ m₁ o₁ s₁ ≡ W₁
+        work-is = work-same d₁ m₁ o o₁ s₁ W₁ leaves
+
+        held-is : take (blockCountOf m₁) s₁ ≡ kept (t .block) (blocks W₀)
+        held-is = rw (done .memory, done .store, count-after W₀ (t .block) is-W₀ (R .long) .1) (dropped-held (t .block) (blockCountOf m) s)
+
+        -- what is left is ready for the next
+        ready-next : Ready d₁ m₁ o₁ (releaseLength * length (take (blockCountOf m₁) s₁))
+        ready-next =
+            record {
+              long = omega (arith, R .long, ap length (done .memory), length-with-count m (length (kept (t .block) (take (blockCountOf m) s))));
+              regular = regular-same (workOf d₁ m₁ o₁ s₁) (workOf d₁ m₁ o₁ []) refl refl (rw work-is (release-regular W₀ (t .view .0) (t .block) (R .long) is-W₀));
+              room = omega (arith, R .room, fewer, done .place, ap length held-is, ap length (done .output), length-patch o (r .at) (recordsOf (r .tip) (r .at) t m o s));
+            }
+
+        it-turned : Turned r m o s (record { goes = true; view = r .view; tip = t .block; at = at; left = r .left - 1 }) m₁ o₁ s₁
+        it-turned =
+            let D : ruleD W₀ ≡ W₁ =
+            runs W₀ (both .0) ∙ ap (λ (z : View). release (z .0) (lowestTarget W₀ .block) W₀) (sym view-is) ∙ ap (λ (z : Block). release (t .view .0) z W₀) (sym block-is) in
+            record { goes = sym (sym is-allowed ∙ h); fewer = λ _. refl; leaves = leaves ∙ ap (λ (X : Work). leftBy X o) (sym D); ready = λ _. ready-next }
+
+    it-rests : t .is ≡ false → Turned r m o s (record { goes = false; view = r .view; tip = r .tip; at = r .at; left = r .left }) m o s
+    it-rests h =
+        record { goes = sym (sym is-allowed ∙ h); fewer = λ f. absurd (false≢true f); leaves = left-same d m o s (omega (arith, R .room)); ready = λ f. absurd (false≢true f) }
+
+    -- as the code takes it
+    pub turned : (at : ℕ) (m₁ o₁ : List ℕ) (s₁ : List Block) (q : Turn) → ReleasedIf (r .tip) (r .at) t m o s at m₁ o₁ s₁ → q ≡ nextTurn r t at → Turned r m o s q m₁ o₁ s₁
+    turned at m₁ o₁ s₁ q done e₁ = go (t .is) refl
+      where
+        go : (i : Bool) → t .is ≡ i → Turned r m o s q m₁ o₁ s₁
+        go true h = rw (e₁, h) (it-turned h at m₁ o₁ s₁ (done .yes h))
+        go false h = let n = done .no h in rw (e₁, h, n .0, n .1 .0, n .1 .1 .0, n .1 .1 .1) (it-rests h)
+
+  -- ---- ALL TURNS
+  module _ (q : Turn) (m₁ o₁ : List ℕ) (s₁ : List Block) (T : Turned r m o s q m₁ o₁ s₁) where
+    more-turns : q .goes ≡ true → 0 < r .left
+    more-turns h = ltb-true 0 (r .left) (and-true (lowestTarget W₀ .is) (ltb 0 (r .left)) (sym (T .goes) ∙ h) .1)
+
+    all-done : q .goes ≡ false → left (draftAt q) m₁ o₁ s₁ ≡ leftBy (again (r .left) W₀) o
+    all-done h = T .leaves ∙ ap (λ (z : Bool). leftBy (cond z (ruleD W₀) W₀) o) h ∙ ap (λ (X : Work). leftBy X o) (sym (again-over (r .left) W₀ (sym (T .goes) ∙ h)))
+
+    -- one turn
+    pub by-one : r .goes ≡ true → ByTurns 1 r m o s q m₁ o₁ s₁
+    unfolding again
+    by-one h =
+        record {
+          before = λ _. h;
+          count = λ g. omega (arith, T .fewer g, more-turns g);
+          on = λ g. T .leaves ∙ ap (λ (z : Bool). leftBy (cond z (ruleD W₀) W₀) o) g;
+          ready = T .ready;
+          off = λ _ g. all-done g;
+          rest = λ f. absurd (true≢false (sym h ∙ f));
+        }
+
+  pub by-none : (n : ℕ) → r .goes ≡ false → ByTurns n r m o s r m o s
+  by-none n h =
+      record {
+        before = λ g. g;
+        count = λ g. absurd (true≢false (sym g ∙ h));
+        on = λ g. absurd (true≢false (sym g ∙ h));
+        ready = λ g. absurd (true≢false (sym g ∙ h));
+        off = λ g _. absurd (true≢false (sym g ∙ h));
+        rest = λ _. (refl, (refl, (refl, refl)));
+      }
+
+again-add : (a b : ℕ) (W : Work) → again b (again a W) ≡ again (a + b) W
+unfolding again
+again-add zero b W = let e : 0 + b ≡ b = omega arith in rw e refl
+again-add (suc a) b W = let e : suc a + b ≡ suc (a + b) = omega arith in again-add a b (ruleD W) ∙ rw e refl
+
+-- turns after turns, in place
+module _ (r : Turn) (m o : List ℕ) (s : List Block) (q : Turn) (m₁ o₁ : List ℕ) (s₁ : List Block) (p : Turn) (m₂ o₂ : List ℕ) (s₂ : List Block) where
+  joined : (a b : ℕ) → left (draftAt q) m₁ o₁ s₁ ≡ leftBy (again a (workOf (draftAt r) m o s)) o → left (draftAt p) m₂ o₂ s₂ ≡ leftBy (again b (workOf (draftAt q) m₁ o₁ s₁)) o₁
+      → left (draftAt p) m₂ o₂ s₂ ≡ leftBy (again (a + b) (workOf (draftAt r) m o s)) o
+  joined a b l rest =
+      let W = workOf (draftAt r) m o s in
+      let W₁ = again a W in
+      rest
+      ∙ ap (λ (X : Work). leftBy (again b X) o₁) (work-same (draftAt q) m₁ o o₁ s₁ W₁ l)
+      ∙ ap (leftBy (again b W₁)) (ap (λ (z : Left). z .output) l)
+      ∙ left-over W₁ (again b W₁) o (again-grows b W₁)
+      ∙ ap (λ (X : Work). leftBy X o) (again-add a b W)
+
+  pub by-more : (a b : ℕ) → ByTurns a r m o s q m₁ o₁ s₁ → ByTurns b q m₁ o₁ s₁ p m₂ o₂ s₂ → ByTurns (a + b) r m o s p m₂ o₂ s₂
+  by-more a b A B =
+      record {
+        before = λ g. A .before (B .before g);
+        count = λ g. omega (arith, A .count (B .before g), B .count g);
+        on = λ g. joined a b (A .on (B .before g)) (B .on g);
+        ready = B .ready;
+        off = λ h g. ended h g (q .goes) refl;
+        rest = λ f. let x = A .rest f in let y = B .rest (ap (λ (z : Turn). z .goes) (x .0) ∙ f) in (y .0 ∙ x .0, (y .1 .0 ∙ x .1 .0, (y .1 .1 .0 ∙ x .1 .1 .0, y .1 .1 .1 ∙ x .1 .1 .1)));
+      }
+    where
+      ended : r .goes ≡ true → p .goes ≡ false → (i : Bool) → q .goes ≡ i → left (draftAt p) m₂ o₂ s₂ ≡ leftBy (again (r .left) (workOf (draftAt r) m o s)) o
+      ended h g true e = joined a (q .left) (A .on e) (B .off e g) ∙ ap (λ (k : ℕ). leftBy (again k (workOf (draftAt r) m o s)) o) (sym (A .count e))
+      ended h g false e = let y = B .rest e in rw (y .0, y .1 .0, y .1 .1 .0, y .1 .1 .1) (A .off h e)
+
+-- ---- OTHER COUNTERS OF THE SAME VIEW AND TIP
+abbrev with : Counters → Work → Work
+with c W = record { counters = releasing c (tip W); memory = W .memory; store = W .store; out = W .out }
+
+pair-with : (c : Counters) (W : Work) (v k : ℕ) → lowestPair v k (with c W) ≡ lowestPair v k W
+unfolding releasing
+pair-with c W v k = pair-bare v k (with c W) ∙ sym (pair-bare v k W)
+
+rule-with : (c : Counters) (W : Work) → c .view ≡ W .counters .view → (ruleD (with c W) ≡ with c (ruleD W)) × (c .view ≡ ruleD W .counters .view)
+unfolding ruleD release releasing
+rule-with c W e = (ap next same ∙ go (pair W .name .some) .0, e ∙ go (pair W .name .some) .1)
+  where
+    same : pair (with c W) ≡ pair W
+    same = pair-with c W (lowest (c .view .0)) (ballotViews (with c W)) ∙ ap (λ (z : View). lowestPair (lowest (z .0)) (suc (highest (z .0)) - lowest (z .0)) W) e
+
+    next : Pair → Work
+    next p = cond (p .name .some) (release (p .at) (heldBlock W (p .name .name) .block) (with c W)) (with c W)
+
+    go : (t : Bool)
+        → (cond t (release (pair W .at) (heldBlock W (pair W .name .name) .block) (with c W)) (with c W) ≡ with c (cond t (release (pair W .at) (heldBlock W (pair W .name .name) .block) W) W))
+        × (W .counters .view ≡ cond t (release (pair W .at) (heldBlock W (pair W .name .name) .block) W) W .counters .view)
+    go true = (refl, refl)
+    go false = (refl, refl)
+
+again-with : (k : ℕ) (c : Counters) (W : Work) → c .view ≡ W .counters .view → again k (with c W) ≡ with c (again k W)
+unfolding again
+again-with zero c W e = refl
+again-with (suc k) c W e = let r = rule-with c W e in ap (again k) (r .0) ∙ again-with k c (ruleD W) (r .1)
+
+-- ---- RELEASE_ALL
+module _ (d : Draft) (m o : List ℕ) (s : List Block) (k : ℕ) (first : Turn) (e₀ : first ≡ firstTurn d k) where
+  abbrev d° : Draft
+  d° = draftAt (firstTurn d k)
+
+  pub ready-first : Ready d m o (releaseLength * length (take (blockCountOf m) s)) → first .goes ≡ true → Ready (draftAt first) m o (releaseLength * length (take (blockCountOf m) s))
+  ready-first R _ = rw e₀ (record { long = R .long; regular = regular-same (workOf d m o []) (workOf d° m o []) refl refl (R .regular); room = R .room })
+
+  pub finishes : (last : Turn) (m₁ o₁ : List ℕ) (s₁ : List Block) (d₁ : Draft) → k ≤ 128 → ByTurns 128 first m o s last m₁ o₁ s₁ → d₁ ≡ finishedOf d last
+      → left d₁ m₁ o₁ s₁ ≡ leftBy (again k (workOf d m o s)) o
+  unfolding releasing
+  finishes last m₁ o₁ s₁ d₁ few A e =
+      let c = d .counters in
+      let l° : left (draftAt last) m₁ o₁ s₁ ≡ leftBy (again k (workOf d° m o s)) o = all (last .goes) refl ∙ ap (λ (z : Turn). leftBy (again (z .left) (workOf (draftAt z) m o s)) o) e₀ in
+      rw e
+      (ap (λ (z : Left). record { counters = releasing c (z .counters .tip); at = z .at; memory = z .memory; output = z .output; store = z .store }) l°
+      ∙ ap (λ (X : Work). leftBy X o) (sym (again-with k c (workOf d° m o s) refl)))
+    where
+      all : (g : Bool) → last .goes ≡ g → left (draftAt last) m₁ o₁ s₁ ≡ leftBy (again (first .left) (workOf (draftAt first) m o s)) o
+      all false g = A .off (ap (λ (z : Turn). z .goes) e₀) g
+      all true g =
+          let n : 128 ≡ first .left = omega (arith, A .count g, ap (λ (z : Turn). z .left) e₀, few) in
+          A .on g ∙ ap (λ (j : ℕ). leftBy (again j (workOf (draftAt first) m o s)) o) n

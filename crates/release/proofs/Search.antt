@@ -1,0 +1,130 @@
+-- The search goes on as `releasable` and `lowestPair` do: one step of it, where it begins, and that it reads nothing that was written. Assumes nothing.
+use Prim.Native.Nat.{ℕ, zero, suc, _+_, _-_, _^_, _≤_, _<_}
+use native.Mathlib.Omega.{arith}
+use mathlib.Core.Path.{_≡_, refl, ap, _∙_}
+use mathlib.Core.Bool.{Bool, true, false, cond, _&&_, false≢true, true≢false}
+use mathlib.Core.List.{List}
+use borrow.Author.Tests.{lt-ltb}
+use lib.Dec.{ltb}
+use lib.ListN.{take}
+use Rattle.settings.specs.Quorum.{largest, lastView}
+use Rattle.blocks.specs.declared.Block.{Block}
+use Rattle.blocks.specs.declared.Found.{Found}
+use Rattle.blocks.specs.Store.{held, descends}
+use Rattle.memory.specs.declared.decided.Choice.{Choice}
+use Rattle.memory.specs.Window.{lowest, highest}
+use Rattle.memory.specs.Decided.{noChoice, nextDecided}
+use Rattle.counters.specs.declared.Counters.{Counters}
+use Rattle.protocol.specs.Work.{Work, n, viewNow, tip, blocks, heldBlock}
+use Rattle.protocol.specs.Rules.{tries, enoughToRelease, releasable, Pair, lowestPair, ballotViews}
+use Rattle.release.specs.Search.{standing, seen, target, pairFrom, targetOf, targetFrom, lowestTarget, firstPlace, lookOf, goesTo, endsWith, nextView, nextName, stepOf, stepsLeft}
+use Rattle.release.specs.declared.Place.{Place}
+use Rattle.release.specs.declared.Look.{Look}
+use Rattle.release.specs.declared.Step.{Step}
+
+-- what a step s at the place p says of the search in W
+pub record Follows (p : Place) (W : Work) (s : Step) : Type 0 where
+  pub on : s .goes ≡ true → targetFrom p W ≡ targetFrom (s .place) W
+  pub off : s .goes ≡ false → targetFrom p W ≡ s .target
+  pub less : s .goes ≡ true → n W ≤ largest → stepsLeft (s .place) < stepsLeft p
+  pub within : s .goes ≡ true → s .place .view + s .place .views ≤ p .view + p .views
+
+abbrev placed : ℕ → Choice → ℕ → ℕ → Place
+placed v a k j = record { view = v; some = a .some; name = a .name; views = k; tries = j }
+
+-- ---- no name of the view is left
+next-pair : (v k : ℕ) (W : Work) → lowestPair (suc v) (suc k) W ≡ pairFrom (placed (v + 1) noChoice (suc k - 1) (tries W)) W
+unfolding lowestPair pairFrom
+next-pair v k W = let e : v + 1 ≡ suc v = omega arith in let f : suc k - 1 ≡ k = omega arith in rw (e, f) refl
+
+view-ends : (v : ℕ) (a : Choice) (k j : ℕ) (W : Work) → pairFrom (placed v a k j) W ≡ lowestPair (suc v) k W → Follows (placed v a k j) W (nextView (placed v a k j) (tries W))
+unfolding pairFrom targetOf lowestPair targetFrom nextView stepsLeft
+view-ends v a zero j W e = record { on = λ h. absurd (false≢true h); off = λ h. rw e refl; less = λ h l. absurd (false≢true h); within = λ h. absurd (false≢true h) }
+view-ends v a (suc k) j W e = rw (lt-ltb 0 (suc k) (omega arith)) (record { on = λ h. ap (λ (z : Pair). targetOf z W) (e ∙ next-pair v k W); off = λ h. absurd (true≢false h); less = λ h l. omega arith; within = λ h. omega arith })
+
+none-tried : (v : ℕ) (a : Choice) (k : ℕ) (W : Work) → pairFrom (placed v a k 0) W ≡ lowestPair (suc v) k W
+unfolding pairFrom releasable
+none-tried v a k W = refl
+
+module _ (v : ℕ) (a : Choice) (W : Work) where
+  abbrev x : Choice
+  x = nextDecided (W .memory) (enoughToRelease v W) a
+
+  abbrev releases : Bool
+  releases = heldBlock W (x .name) .is && descends (tip W) (blocks W) (heldBlock W (x .name) .block)
+
+  none-found : (k j : ℕ) → x .some ≡ false → pairFrom (placed v a k j) W ≡ lowestPair (suc v) k W
+  unfolding pairFrom releasable
+  none-found k zero e = refl
+  none-found k (suc j) e = rw e refl
+
+  it-is : (k j : ℕ) → x .some ≡ true → releases ≡ true → targetFrom (placed v a k (suc j)) W ≡ target v (heldBlock W (x .name) .block)
+  unfolding pairFrom releasable targetOf targetFrom
+  it-is k j e f = rw (e, f) refl
+
+  it-is-not : (k j : ℕ) → x .some ≡ true → releases ≡ false → pairFrom (placed v a k (suc j)) W ≡ pairFrom (placed v x k (suc j - 1)) W
+  unfolding pairFrom releasable
+  it-is-not k j e f = let g : suc j - 1 ≡ j = omega arith in rw (e, f, g) refl
+
+  found : (k j : ℕ) (s t : Bool) → x .some ≡ s → releases ≡ t
+      → Follows (placed v a k j) W (cond (s && ltb 0 j) (cond t (endsWith (placed v a k j) (target v (heldBlock W (x .name) .block))) (goesTo (placed v x k (j - 1)))) (nextView (placed v a k j) (tries W)))
+  unfolding targetFrom stepsLeft
+  found k zero true t e f = view-ends v a k 0 W (none-tried v a k W)
+  found k zero false t e f = view-ends v a k 0 W (none-tried v a k W)
+  found k (suc j) false t e f = view-ends v a k (suc j) W (none-found k (suc j) e)
+  found k (suc j) true true e f =
+      rw (lt-ltb 0 (suc j) (omega arith)) (record { on = λ h. absurd (false≢true h); off = λ h. it-is k j e f; less = λ h l. absurd (false≢true h); within = λ h. absurd (false≢true h) })
+  found k (suc j) true false e f =
+      rw (lt-ltb 0 (suc j) (omega arith)) (record { on = λ h. ap (λ (z : Pair). targetOf z W) (it-is-not k j e f); off = λ h. absurd (true≢false h); less = λ h l. omega arith; within = λ h. omega arith })
+
+-- ---- ONE STEP
+pub follows : (p : Place) (W : Work)
+    → let l = lookOf (W .memory) p in let b = heldBlock W (l .name) in Follows p W (stepOf p l b (descends (tip W) (blocks W) (b .block)))
+unfolding lookOf stepOf nextName
+follows p W = found (p .view) (record { some = p .some; name = p .name }) W (p .views) (p .tries) _ _ refl refl
+
+-- as the code takes it
+pub stepped : (tip : Block) (m : List ℕ) (entries : List Block) (p : Place) (l : Look) (b : Found) (down : Bool) (s : Step) → l ≡ lookOf m p
+    → b ≡ held tip (take (l .count) entries) (l .name) → down ≡ descends tip (take (l .count) entries) (b .block) → s ≡ stepOf p l b down
+    → Follows p (seen tip m entries) s
+unfolding lookOf
+stepped tip m entries p l b down s e₀ e₁ e₂ e₃ = rw (e₃, e₂, e₁, e₀) (follows p (seen tip m entries))
+
+-- ---- WHERE IT BEGINS
+pub first-within : (v : ℕ) (m : List ℕ) → v ≤ lastView → firstPlace v m .view + firstPlace v m .views < 2 ^ 63
+unfolding firstPlace
+first-within v m h = omega arith
+
+pub begins : (W : Work) → 1 ≤ viewNow W → viewNow W ≤ lastView → targetFrom (firstPlace (viewNow W) (W .memory)) W ≡ lowestTarget W
+unfolding pairFrom lowestPair targetFrom lowestTarget firstPlace
+begins W a b =
+    let k = highest (viewNow W) - lowest (viewNow W) in
+    let more : ballotViews W ≡ suc k = omega arith in
+    rw more refl
+
+-- ---- IT READS TIP, MEMORY AND STORE
+abbrev pub bare : Work → Work
+bare W = seen (tip W) (W .memory) (W .store)
+
+releasable-bare : (v : ℕ) (W : Work) (k : ℕ) (after : Choice) → releasable v W k after ≡ releasable v (bare W) k after
+unfolding releasable
+releasable-bare v W zero after = refl
+releasable-bare v W (suc k) after = rw (releasable-bare v W k (nextDecided (W .memory) (enoughToRelease v W) after)) refl
+
+pub pair-bare : (v k : ℕ) (W : Work) → lowestPair v k W ≡ lowestPair v k (bare W)
+unfolding lowestPair
+pair-bare v zero W = refl
+pair-bare v (suc k) W = rw (releasable-bare v W (tries W) noChoice, pair-bare (suc v) k W) refl
+
+-- so does the search from a place on
+pub from-seen : (p : Place) (c : Counters) (m : List ℕ) (entries : List Block) → targetFrom p (standing c m entries) ≡ targetFrom p (seen (c .tip) m entries)
+unfolding targetFrom pairFrom targetOf
+from-seen p c m entries =
+    let W = standing c m entries in
+    rw (releasable-bare (p .view) W (p .tries) (record { some = p .some; name = p .name }), pair-bare (suc (p .view)) (p .views) W) refl
+
+-- and so what was written is no matter
+pub target-standing : (W : Work) → lowestTarget W ≡ lowestTarget (standing (W .counters) (W .memory) (W .store))
+unfolding targetOf lowestTarget
+target-standing W =
+    rw (pair-bare (lowest (viewNow W)) (ballotViews W) W, pair-bare (lowest (viewNow W)) (ballotViews W) (standing (W .counters) (W .memory) (W .store))) refl

@@ -1,0 +1,464 @@
+// Rule D over the lent store: what enough kept votes or commits decide is released, lowest view first, then smaller name, until nothing is left to release.
+// Promises: `lowest_target` finds the pair of `lowestPair`, and `release_all` leaves what `again` of protocol's specs/Rules.antt says, the bytes behind the
+// written ones as they were. It asks that memory and counters pass refusal 2 and that a release of each held block has room.
+// Rests on `memory`, `blocks`, `counters`, `act` and the shared modules of `walks`. Every decision is a function by value; the others move values.
+use act::Draft;
+use blocks::Block;
+use blocks::Found;
+use counters::releasing;
+use memory::block_count;
+use memory::decided::Choice;
+use memory::decided::Quest;
+use memory::decided::next_decided;
+use memory::own;
+use memory::put_block_count;
+use memory::settings;
+use memory::window::highest;
+use memory::window::lowest;
+use settings::Height;
+use settings::View;
+ghost use mathlib.Core.Path.{_≡_};
+ghost use mathlib.Core.Bool.{true, cond};
+ghost use Prim.Native.Nat.{_+_, _*_, _^_, _<_, _≤_};
+ghost use lib.ListN.{length, take};
+ghost use Rattle.settings.specs.Quorum.{largest, replicas};
+ghost use Rattle.wire.specs.Fields.{releaseLength};
+ghost use Rattle.memory.specs.Layout.{memoryLength, settingsOf, blockCountOf, withBlockCount};
+ghost use Rattle.protocol.specs.Refusals.{storeLength, regular};
+ghost use Rattle.protocol.specs.Rules.{again};
+ghost use Rattle.act.specs.Draft.{workOf, left, leftBy, Ready};
+ghost use Rattle.release.specs.Released.{Releases, Released, ReleasedIf, firstTurn, allowedOf, nextTurn, draftAt, ByTurns, finishedOf};
+ghost use Rattle.release.specs.Search.{standing, knownBy, seen, noTarget, firstPlace, lookOf, nextView, nextName, stepOf, targetFrom, lowestTarget};
+
+// Where the search stands: at a view, above a name or at its first; how many views come after it, and how many of its names are still tried.
+struct Place {
+    view: u64,
+    some: bool,
+    name: [u8; 32],
+    views: usize,
+    tries: usize,
+}
+
+// What the memory says there: the next decided name, if there is one; the number of held blocks, and of names that a view is tried for.
+struct Look {
+    some: bool,
+    name: [u8; 32],
+    count: usize,
+    tries: usize,
+}
+
+// The block to release, if there is one, and the view of the votes or commits that decide it.
+pub struct Target {
+    pub is: bool,
+    pub view: View,
+    pub block: Block,
+}
+
+// One step of the search: it goes on at a place, or ends with a target.
+struct Step {
+    goes: bool,
+    place: Place,
+    target: Target,
+}
+
+fn no_target() -> Target
+    ensures { λ r. ⌜ r ≡ noTarget ⌝ }
+{
+    let z = [0u8; 32];
+    Target {
+        is: false,
+        view: View(0),
+        block: Block {
+            name: z,
+            parent: z,
+            height: Height(0),
+        },
+    }
+}
+
+fn first_place(mem: &[u8], view: View) -> Place
+    requires { ⌜ (memoryLength ≤ length (now mem)) × ((1 ≤ view .0) × (view .0 ≤ 2 ^ 62)) ⌝ }
+    ensures { λ r. ⌜ r ≡ firstPlace (view .0) (now (mem .entry)) ⌝ }
+{
+    let v = view.0;
+    let n = settings(mem).n() as usize;
+    let low = lowest(v);
+    Place {
+        view: low,
+        some: false,
+        name: [0u8; 32],
+        views: (highest(v) - low) as usize,
+        tries: n + n + 1,
+    }
+}
+
+fn look_at(mem: &[u8], p: Place) -> Look
+    requires { ⌜ (memoryLength ≤ length (now mem)) × (replicas (settingsOf (now mem)) ≤ largest) ⌝ }
+    ensures { λ r. ⌜ r ≡ lookOf (now (mem .entry)) p ⌝ }
+{
+    let s = settings(mem);
+    let n = s.n() as usize;
+    let name = p.name;
+    let x = next_decided(
+        mem,
+        Quest {
+            view: p.view,
+            n,
+            votes: s.fast_quorum(),
+            commits: s.slow_quorum(),
+        },
+        Choice { some: p.some, name },
+    );
+    let found = x.name;
+    Look {
+        some: x.some,
+        name: found,
+        count: block_count(mem),
+        tries: n + n + 1,
+    }
+}
+
+// No name of the view is left.
+fn next_view(p: Place, tries: usize) -> Step
+    requires { ⌜ p .view + 1 < 2 ^ 64 ⌝ }
+    ensures { λ r. ⌜ r ≡ nextView p tries ⌝ }
+{
+    let target = no_target();
+    if 0 < p.views {
+        let place = Place {
+            view: p.view + 1,
+            some: false,
+            name: [0u8; 32],
+            views: p.views - 1,
+            tries,
+        };
+        return Step {
+            goes: true,
+            place,
+            target,
+        };
+    }
+    Step {
+        goes: false,
+        place: p,
+        target,
+    }
+}
+
+// The name that was found is not to be released.
+fn next_name(p: Place, l: Look) -> Step
+    requires { ⌜ 1 ≤ p .tries ⌝ }
+    ensures { λ r. ⌜ r ≡ nextName p l ⌝ }
+{
+    let name = l.name;
+    let some = l.some;
+    let place = Place {
+        view: p.view,
+        some,
+        name,
+        views: p.views,
+        tries: p.tries - 1,
+    };
+    let target = no_target();
+    Step {
+        goes: true,
+        place,
+        target,
+    }
+}
+
+// Every decision of the search, by value. b is what is held of the name that was found, and `down` whether it leads to the tip.
+fn next_step(p: Place, l: Look, b: Found, down: bool) -> Step
+    requires { ⌜ p .view + 1 < 2 ^ 64 ⌝ }
+    ensures { λ r. ⌜ r ≡ stepOf p l b down ⌝ }
+{
+    if !l.some {
+        return next_view(p, l.tries);
+    }
+    if p.tries < 1 {
+        return next_view(p, l.tries);
+    }
+    if !b.is {
+        return next_name(p, l);
+    }
+    if !down {
+        return next_name(p, l);
+    }
+    let block = b.block;
+    let target = Target {
+        is: true,
+        view: View(p.view),
+        block,
+    };
+    Step {
+        goes: false,
+        place: p,
+        target,
+    }
+}
+
+// The search from a place on. Each call is for a decided name or for a view, so that few stand on the stack.
+fn target_from(mem: &[u8], store: &[Block], tip: Block, p: Place) -> Target
+    requires { ⌜ (memoryLength ≤ length (now mem)) × ((replicas (settingsOf (now mem)) ≤ largest) × (p .view + p .views < 2 ^ 63)) ⌝ }
+    ensures { λ r. ⌜ r ≡ targetFrom p (seen tip (now (mem .entry)) (now (store .entry))) ⌝ }
+{
+    let l = look_at(mem, p);
+    let b = blocks::held(store, l.count, tip, l.name);
+    let down = blocks::descends(store, l.count, tip, b.block);
+    let s = next_step(p, l, b, down);
+    if s.goes {
+        target_from(mem, store, tip, s.place)
+    } else {
+        s.target
+    }
+}
+
+// What rule D releases next.
+pub fn lowest_target(mem: &[u8], store: &[Block], view: View, tip: Block) -> Target
+    requires { ⌜ (memoryLength ≤ length (now mem)) × (regular (standing (knownBy view tip) (now mem) (now store)) ≡ true) ⌝ }
+    ensures { λ r. ⌜ r ≡ lowestTarget (standing (knownBy view tip) (now (mem .entry)) (now (store .entry))) ⌝ }
+{
+    let p = first_place(mem, view);
+    target_from(mem, store, tip, p)
+}
+
+fn target_if(mem: &[u8], store: &[Block], go: bool, view: View, tip: Block) -> Target
+    requires { ⌜ (go ≡ true → (memoryLength ≤ length (now mem)) × (regular (standing (knownBy view tip) (now mem) (now store)) ≡ true)) ⌝ }
+    ensures { λ r. ⌜ r ≡ cond go (lowestTarget (standing (knownBy view tip) (now (mem .entry)) (now (store .entry)))) noTarget ⌝ }
+{
+    if go {
+        lowest_target(mem, store, view, tip)
+    } else {
+        no_target()
+    }
+}
+
+fn put_count(mem: &mut [u8], k: usize)
+    requires { ⌜ (memoryLength ≤ length (now mem)) × (k < 2 ^ 16) ⌝ }
+    ensures { λ _. ⌜ now (mem .exit) ≡ withBlockCount (now (mem .entry)) k ⌝ }
+{
+    put_block_count(mem, k as u16);
+}
+
+// One release, but for the tip: the line down to it is written, and what does not descend from the block is dropped. The place behind what is written.
+fn release_target(
+    mem: &mut [u8],
+    store: &mut [Block],
+    out: &mut [u8],
+    tip: Block,
+    at: usize,
+    t: Target,
+) -> usize
+    requires { ⌜ Releases tip at t (now mem) (now out) (now store) ⌝ }
+    ensures { λ r. ⌜ Released tip at t (now (mem .entry)) (now (out .entry)) (now (store .entry)) r (now (mem .exit)) (now (out .exit)) (now (store .exit)) ⌝ }
+{
+    let count = block_count(mem);
+    let me = own(mem);
+    let to = blocks::release(store, count, tip, t.block, me, t.view, out, at);
+    let rest = blocks::drop_others(store, count, t.block);
+    put_count(mem, rest);
+    to
+}
+
+// A target is released, if there is one.
+fn release_if(
+    mem: &mut [u8],
+    store: &mut [Block],
+    out: &mut [u8],
+    tip: Block,
+    at: usize,
+    t: Target,
+) -> usize
+    requires { ⌜ (t .is ≡ true → Releases tip at t (now mem) (now out) (now store)) ⌝ }
+    ensures { λ r. ⌜ ReleasedIf tip at t (now (mem .entry)) (now (out .entry)) (now (store .entry)) r (now (mem .exit)) (now (out .exit)) (now (store .exit)) ⌝ }
+{
+    if t.is {
+        release_target(mem, store, out, tip, at, t)
+    } else {
+        at
+    }
+}
+
+// Turns of rule D: view and tip, bytes written, turns left, and whether the last one released something. Of the counters rule D needs no more.
+struct Turn {
+    goes: bool,
+    view: View,
+    tip: Block,
+    at: usize,
+    left: usize,
+}
+
+fn first_turn(d: Draft, k: usize) -> Turn
+    ensures { λ r. ⌜ r ≡ firstTurn d k ⌝ }
+{
+    let c = d.counters;
+    let view = c.view;
+    let tip = c.tip;
+    Turn {
+        goes: true,
+        view,
+        tip,
+        at: d.at,
+        left: k,
+    }
+}
+
+// A target is released while turns are left.
+fn allowed(t: Target, r: Turn) -> Target
+    ensures { λ s. ⌜ s ≡ allowedOf t r ⌝ }
+{
+    let view = t.view;
+    let block = t.block;
+    if t.is {
+        return Target {
+            is: 0 < r.left,
+            view,
+            block,
+        };
+    }
+    t
+}
+
+// The turn in which the target was released, if there was one; so many bytes are written.
+fn next_turn(r: Turn, t: Target, at: usize) -> Turn
+    requires { ⌜ (t .is ≡ true → 1 ≤ r .left) ⌝ }
+    ensures { λ s. ⌜ s ≡ nextTurn r t at ⌝ }
+{
+    let view = r.view;
+    if t.is {
+        let tip = t.block;
+        return Turn {
+            goes: true,
+            view,
+            tip,
+            at,
+            left: r.left - 1,
+        };
+    }
+    let tip = r.tip;
+    Turn {
+        goes: false,
+        view,
+        tip,
+        at,
+        left: r.left,
+    }
+}
+
+fn goes_of(r: Turn) -> bool
+    ensures { λ s. ⌜ s ≡ r .goes ⌝ }
+{
+    r.goes
+}
+
+fn tip_of(r: Turn) -> Block
+    ensures { λ s. ⌜ s ≡ r .tip ⌝ }
+{
+    r.tip
+}
+
+fn view_of(r: Turn) -> View
+    ensures { λ s. ⌜ s ≡ r .view ⌝ }
+{
+    r.view
+}
+
+fn at_of(r: Turn) -> usize
+    ensures { λ s. ⌜ s ≡ r .at ⌝ }
+{
+    r.at
+}
+
+// Rule D once, if something is left to release and turns are left; after a turn that released nothing, nothing is looked for.
+fn turns_1(mem: &mut [u8], store: &mut [Block], out: &mut [u8], r: Turn) -> Turn
+    requires { ⌜ (r .goes ≡ true → Ready (draftAt r) (now mem) (now out) (releaseLength * length (take (blockCountOf (now mem)) (now store)))) ⌝ }
+    ensures { λ q. ⌜ ByTurns 1 r (now (mem .entry)) (now (out .entry)) (now (store .entry)) q (now (mem .exit)) (now (out .exit)) (now (store .exit)) ⌝ }
+{
+    let go = goes_of(r);
+    let v = view_of(r);
+    let tip = tip_of(r);
+    let at = at_of(r);
+    let low = target_if(mem, store, go, v, tip);
+    let t = allowed(low, r);
+    let to = release_if(mem, store, out, tip, at, t);
+    next_turn(r, t, to)
+}
+
+// Turns after turns, twice as many each time: a function that called itself, with an `if` over three lent regions and a struct as its result, was over
+// the step limit of the check; and so calls nest no deeper than this. After a turn that released nothing the others do nothing.
+fn turns_2(mem: &mut [u8], store: &mut [Block], out: &mut [u8], r: Turn) -> Turn
+    requires { ⌜ (r .goes ≡ true → Ready (draftAt r) (now mem) (now out) (releaseLength * length (take (blockCountOf (now mem)) (now store)))) ⌝ }
+    ensures { λ q. ⌜ ByTurns 2 r (now (mem .entry)) (now (out .entry)) (now (store .entry)) q (now (mem .exit)) (now (out .exit)) (now (store .exit)) ⌝ }
+{
+    let q = turns_1(mem, store, out, r);
+    turns_1(mem, store, out, q)
+}
+
+fn turns_4(mem: &mut [u8], store: &mut [Block], out: &mut [u8], r: Turn) -> Turn
+    requires { ⌜ (r .goes ≡ true → Ready (draftAt r) (now mem) (now out) (releaseLength * length (take (blockCountOf (now mem)) (now store)))) ⌝ }
+    ensures { λ q. ⌜ ByTurns 4 r (now (mem .entry)) (now (out .entry)) (now (store .entry)) q (now (mem .exit)) (now (out .exit)) (now (store .exit)) ⌝ }
+{
+    let q = turns_2(mem, store, out, r);
+    turns_2(mem, store, out, q)
+}
+
+fn turns_8(mem: &mut [u8], store: &mut [Block], out: &mut [u8], r: Turn) -> Turn
+    requires { ⌜ (r .goes ≡ true → Ready (draftAt r) (now mem) (now out) (releaseLength * length (take (blockCountOf (now mem)) (now store)))) ⌝ }
+    ensures { λ q. ⌜ ByTurns 8 r (now (mem .entry)) (now (out .entry)) (now (store .entry)) q (now (mem .exit)) (now (out .exit)) (now (store .exit)) ⌝ }
+{
+    let q = turns_4(mem, store, out, r);
+    turns_4(mem, store, out, q)
+}
+
+fn turns_16(mem: &mut [u8], store: &mut [Block], out: &mut [u8], r: Turn) -> Turn
+    requires { ⌜ (r .goes ≡ true → Ready (draftAt r) (now mem) (now out) (releaseLength * length (take (blockCountOf (now mem)) (now store)))) ⌝ }
+    ensures { λ q. ⌜ ByTurns 16 r (now (mem .entry)) (now (out .entry)) (now (store .entry)) q (now (mem .exit)) (now (out .exit)) (now (store .exit)) ⌝ }
+{
+    let q = turns_8(mem, store, out, r);
+    turns_8(mem, store, out, q)
+}
+
+fn turns_32(mem: &mut [u8], store: &mut [Block], out: &mut [u8], r: Turn) -> Turn
+    requires { ⌜ (r .goes ≡ true → Ready (draftAt r) (now mem) (now out) (releaseLength * length (take (blockCountOf (now mem)) (now store)))) ⌝ }
+    ensures { λ q. ⌜ ByTurns 32 r (now (mem .entry)) (now (out .entry)) (now (store .entry)) q (now (mem .exit)) (now (out .exit)) (now (store .exit)) ⌝ }
+{
+    let q = turns_16(mem, store, out, r);
+    turns_16(mem, store, out, q)
+}
+
+fn turns_64(mem: &mut [u8], store: &mut [Block], out: &mut [u8], r: Turn) -> Turn
+    requires { ⌜ (r .goes ≡ true → Ready (draftAt r) (now mem) (now out) (releaseLength * length (take (blockCountOf (now mem)) (now store)))) ⌝ }
+    ensures { λ q. ⌜ ByTurns 64 r (now (mem .entry)) (now (out .entry)) (now (store .entry)) q (now (mem .exit)) (now (out .exit)) (now (store .exit)) ⌝ }
+{
+    let q = turns_32(mem, store, out, r);
+    turns_32(mem, store, out, q)
+}
+
+fn turns_128(mem: &mut [u8], store: &mut [Block], out: &mut [u8], r: Turn) -> Turn
+    requires { ⌜ (r .goes ≡ true → Ready (draftAt r) (now mem) (now out) (releaseLength * length (take (blockCountOf (now mem)) (now store)))) ⌝ }
+    ensures { λ q. ⌜ ByTurns 128 r (now (mem .entry)) (now (out .entry)) (now (store .entry)) q (now (mem .exit)) (now (out .exit)) (now (store .exit)) ⌝ }
+{
+    let q = turns_64(mem, store, out, r);
+    turns_64(mem, store, out, q)
+}
+
+// The draft after the last turn.
+fn finished(d: Draft, r: Turn) -> Draft
+    ensures { λ s. ⌜ s ≡ finishedOf d r ⌝ }
+{
+    let c = d.counters;
+    let tip = r.tip;
+    let counters = releasing(c, tip);
+    Draft { counters, at: r.at }
+}
+
+// Rule D, again and again. Each release takes a block out of the store, so that for k the number of held blocks is enough.
+pub fn release_all(mem: &mut [u8], store: &mut [Block], out: &mut [u8], d: Draft, k: usize) -> Draft
+    requires { ⌜ (k ≤ storeLength) × Ready d (now mem) (now out) (releaseLength * length (take (blockCountOf (now mem)) (now store))) ⌝ }
+    ensures { λ r. ⌜ left r (now (mem .exit)) (now (out .exit)) (now (store .exit))
+        ≡ leftBy (again k (workOf d (now (mem .entry)) (now (out .entry)) (now (store .entry)))) (now (out .entry)) ⌝ }
+{
+    let first = first_turn(d, k);
+    let last = turns_128(mem, store, out, first);
+    finished(d, last)
+}

@@ -1,0 +1,33 @@
+{
+    'fn': 'release::turns_1',
+    'kit': 'walks',
+    'types': {'settings': 'blocks'},
+    'params': ['m', 'ys', 'out', 'p'],
+    'requires': '{p} .goes ≡ true → Ready (draftAt {p}) {m} {out} (releaseLength * length (take (blockCountOf {m}) {ys}))',
+    'callees': {
+        'release::goes_of': {'ens': 'r ≡ {0} .goes'},
+        'release::view_of': {'ens': 'r ≡ {0} .view'},
+        'release::tip_of': {'ens': 'r ≡ {0} .tip'},
+        'release::at_of': {'ens': 'r ≡ {0} .at'},
+        'release::target_if': {'req': 'yes', 'ens': 'r ≡ cond {2} (lowestTarget (standing (knownBy {3} {4}) {0} {1})) noTarget'},
+        'release::allowed': {'ens': 'r ≡ allowedOf {0} {1}'},
+        'release::release_if': {'req': 'yes', 'ens': 'ReleasedIf {3} {4} {5} {0} {2} {1} r {w0} {w2} {w1}'},
+        'release::next_turn': {'req': 'yes', 'ens': 'r ≡ nextTurn {0} {1} {2}'},
+    },
+    'asks': [
+        '(search-asks p m out ys asked r0 r1 r2 r3 e0 e1 e2 e3)',
+        '(if-asks p m out ys asked r0 r1 r2 r3 e0 e1 e2 e3 r4 r5 e4 e5)',
+        '(turn-asks p m out ys asked r0 r1 r2 r3 e0 e1 e2 e3 r4 r5 e4 e5)',
+    ],
+    'says': ['(turn-is p m out ys asked r0 r1 r2 r3 e0 e1 e2 e3 r4 r5 e4 e5 r6 _ _ _ r7 e6 e7)'],
+    'spec': {
+        'mathlib.Core.Bool': ['cond'],
+        'lib.ListN': ['take'],
+        'Rattle.wire.specs.Fields': ['releaseLength'],
+        'Rattle.memory.specs.Layout': ['blockCountOf'],
+        'Rattle.act.specs.Draft': ['Ready'],
+        'Rattle.release.specs.Search': ['standing', 'knownBy', 'noTarget', 'lowestTarget'],
+        'Rattle.release.specs.Released': ['ReleasedIf', 'allowedOf', 'nextTurn', 'draftAt', 'ByTurns'],
+        'Rattle.release.proofs.Turning': ['search-asks', 'if-asks', 'turn-asks', 'turn-is'],
+    },
+}
