@@ -67,7 +67,12 @@ def nest(xs, end='tt'):
     for x in reversed(xs): s = f'({x}, {s})'
     return s
 def path(k): return ' .1' * k + ' .0'
-def alias(q): return q.split('::')[-1].replace('_', '-')
+# the callees that go by crate and name: those of one name, and those named by a word of the logic
+BY_CRATE = set()
+def by_crate(callees):
+    last = lambda q: q.split('::')[-1]
+    BY_CRATE.update(q for q in callees if last(q) == 'record' or [last(c) for c in callees].count(last(q)) > 1)
+def alias(q): return (q.replace('::', '-') if q in BY_CRATE else q.split('::')[-1]).replace('_', '-')
 def cons(xs): return ' ∷ '.join(list(xs) + ['[]'])
 
 class Types:
@@ -550,6 +555,7 @@ def main():
     fields = {q: list(zip([esc(n) for n in names[q]], ts)) for q, ts in tys.items() if q in names}
     if a.types:
         open(a.out, 'w', encoding='utf-8').write(types_file(a.types, fields, a.kit, a)); return
+    by_crate(d['callees'])
     w = Walk(a, d, fns, fields)
     w.body()
     open(a.out, 'w', encoding='utf-8').write(whole(a, d, w))
@@ -748,7 +754,9 @@ unfolding code.{dashed}-routine tablesOf
     for q in others:
         g = alias(q)
         uses += [f'use {mod(q)} as {g}', f'use {mod(q)}.Symbol as {g}-def', f'use {mod(q)}.Met as {g}-thm']
-    uses += [f'use {own}.{name}.Key.{{name as #f}}', f'use {own}.{name} as f']
+    if name == 'record': uses.append(f'use {own}.{name}.Key as key'); text = text.replace('#f', 'key.name')
+    else: uses.append(f'use {own}.{name}.Key.{{name as #f}}')
+    uses.append(f'use {own}.{name} as f')
     if rec: uses += [f'use {own}.+{name} as cycle', f'use {own}.+{name}.Code as code']
     else: uses += [f'use {own}.{name}.Statement as stated', f'use {own}.{name}.Code as code']
     head = f'-- `{d["fn"]}` meets its contract: a walk of its MIR. tools/walk.py wrote it from {os.path.basename(a.desc)}. {d.get("about", "")}\n-- Assumes nothing.\n'

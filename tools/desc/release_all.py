@@ -3,14 +3,14 @@
     'kit': 'walks',
     'types': {'settings': 'counters', 'wire': 'counters', 'certificate': 'counters', 'act': 'release'},
     'params': ['m', 'ys', 'out', 'd', 'k'],
-    'requires': '({k} ≤ storeLength) × Ready {d} {m} {out} (releaseLength * length (take (blockCountOf {m}) {ys}))',
+    'requires': '({k} ≤ storeLength) × (({d} .at ≤ length {out}) × (1 ≤ {k} → Ready {d} {m} {out} (releaseLength * length (take (blockCountOf {m}) {ys}))))',
     'callees': {
         'release::first_turn': {'ens': 'r ≡ firstTurn {0} {1}'},
         'release::turns_128': {'req': 'yes', 'ens': 'ByTurns 128 {3} {0} {2} {1} r {w0} {w2} {w1}'},
         'release::finished': {'ens': 'r ≡ finishedOf {0} {1}'},
     },
-    'asks': ['(ready-first d m out ys k r0 e0 (asked .1))'],
-    'says': ['(finishes d m out ys k r0 e0 r1 _ _ _ r2 (asked .0) e1 e2)'],
+    'asks': ['(ready-first d m out ys k r0 e0 (asked .1 .1))'],
+    'says': ['(finishes d m out ys k r0 e0 r1 _ _ _ r2 (asked .0) (asked .1 .0) e1 e2)'],
     'spec': {
         'lib.ListN': ['take'],
         'Rattle.wire.specs.Fields': ['releaseLength'],

@@ -4,7 +4,7 @@ use native.Mathlib.Omega.{arith}
 use mathlib.Core.Path.{_≡_, refl, sym, ap, _∙_}
 use mathlib.Core.Bool.{Bool, true, false, cond, _&&_, false≢true, true≢false}
 use mathlib.Core.List.{List, [], _∷_, _++_}
-use borrow.Author.Tests.{lt-ltb, ltb-true}
+use borrow.Author.Tests.{lt-ltb, ltb-true, ltb-false}
 use lib.Dec.{ltb}
 use lib.ListN.{length, take, drop, set, length-append, take-append-drop}
 use lib.Seq.{sets, sets-eq, length-take-le, take-append-seam, drop-append-add, drop-drop}
@@ -29,6 +29,7 @@ use Rattle.protocol.specs.Rules.{Pair, lowestPair, ballotViews, ruleD, again}
 use Rattle.protocol.proofs.Output.{lowest-is}
 use Rattle.act.specs.declared.Draft.{Draft}
 use Rattle.act.specs.Draft.{workOf, Left, left, leftBy, Ready}
+use Rattle.act.proofs.Steps.{does-nothing}
 use Rattle.release.specs.Search.{standing, knownBy, noTarget, target, targetOf, lowestTarget}
 use Rattle.release.specs.Released.{recordsOf, Releases, Released, ReleasedIf, firstTurn, allowedOf, nextTurn, draftAt, Turned, ByTurns, finishedOf}
 use Rattle.release.specs.declared.Target.{Target}
@@ -329,21 +330,38 @@ module _ (d : Draft) (m o : List ℕ) (s : List Block) (k : ℕ) (first : Turn) 
   abbrev d° : Draft
   d° = draftAt (firstTurn d k)
 
-  pub ready-first : Ready d m o (releaseLength * length (take (blockCountOf m) s)) → first .goes ≡ true → Ready (draftAt first) m o (releaseLength * length (take (blockCountOf m) s))
-  ready-first R _ = rw e₀ (record { long = R .long; regular = regular-same (workOf d m o []) (workOf d° m o []) refl refl (R .regular); room = R .room })
+  pub ready-first : (1 ≤ k → Ready d m o (releaseLength * length (take (blockCountOf m) s))) → first .goes ≡ true → Ready (draftAt first) m o (releaseLength * length (take (blockCountOf m) s))
+  ready-first asked goes =
+      let R = asked (ltb-true 0 k (sym (ap (λ (z : Turn). z .goes) e₀) ∙ goes)) in
+      rw e₀ (record { long = R .long; regular = regular-same (workOf d m o []) (workOf d° m o []) refl refl (R .regular); room = R .room })
 
-  pub finishes : (last : Turn) (m₁ o₁ : List ℕ) (s₁ : List Block) (d₁ : Draft) → k ≤ 128 → ByTurns 128 first m o s last m₁ o₁ s₁ → d₁ ≡ finishedOf d last
+  -- no turn: nothing was done
+  none-left : (last : Turn) (m₁ o₁ : List ℕ) (s₁ : List Block) → d .at ≤ length o → first .left ≡ 0 → (last ≡ first) × ((m₁ ≡ m) × ((o₁ ≡ o) × (s₁ ≡ s)))
+      → left (draftAt last) m₁ o₁ s₁ ≡ leftBy (again (first .left) (workOf (draftAt first) m o s)) o
+  unfolding again
+  none-left last m₁ o₁ s₁ within z same =
+      let there : draftAt first .at ≤ length o = omega (arith, within, ap (λ (y : Turn). y .at) e₀) in
+      rw (same .0, same .1 .0, same .1 .1 .0, same .1 .1 .1, z) (does-nothing (draftAt first) m o there .leaves s)
+
+  pub finishes : (last : Turn) (m₁ o₁ : List ℕ) (s₁ : List Block) (d₁ : Draft) → k ≤ 128 → d .at ≤ length o → ByTurns 128 first m o s last m₁ o₁ s₁ → d₁ ≡ finishedOf d last
       → left d₁ m₁ o₁ s₁ ≡ leftBy (again k (workOf d m o s)) o
   unfolding releasing
-  finishes last m₁ o₁ s₁ d₁ few A e =
+  finishes last m₁ o₁ s₁ d₁ few within A e =
       let c = d .counters in
-      let l° : left (draftAt last) m₁ o₁ s₁ ≡ leftBy (again k (workOf d° m o s)) o = all (last .goes) refl ∙ ap (λ (z : Turn). leftBy (again (z .left) (workOf (draftAt z) m o s)) o) e₀ in
+      let l° : left (draftAt last) m₁ o₁ s₁ ≡ leftBy (again k (workOf d° m o s)) o = begun (first .goes) refl ∙ ap (λ (z : Turn). leftBy (again (z .left) (workOf (draftAt z) m o s)) o) e₀ in
       rw e
       (ap (λ (z : Left). record { counters = releasing c (z .counters .tip); at = z .at; memory = z .memory; output = z .output; store = z .store }) l°
       ∙ ap (λ (X : Work). leftBy X o) (sym (again-with k c (workOf d° m o s) refl)))
     where
-      all : (g : Bool) → last .goes ≡ g → left (draftAt last) m₁ o₁ s₁ ≡ leftBy (again (first .left) (workOf (draftAt first) m o s)) o
-      all false g = A .off (ap (λ (z : Turn). z .goes) e₀) g
-      all true g =
+      all : first .goes ≡ true → (g : Bool) → last .goes ≡ g → left (draftAt last) m₁ o₁ s₁ ≡ leftBy (again (first .left) (workOf (draftAt first) m o s)) o
+      all b false g = A .off b g
+      all b true g =
           let n : 128 ≡ first .left = omega (arith, A .count g, ap (λ (z : Turn). z .left) e₀, few) in
           A .on g ∙ ap (λ (j : ℕ). leftBy (again j (workOf (draftAt first) m o s)) o) n
+
+      begun : (b : Bool) → first .goes ≡ b → left (draftAt last) m₁ o₁ s₁ ≡ leftBy (again (first .left) (workOf (draftAt first) m o s)) o
+      begun true b = all b (last .goes) refl
+      begun false b =
+          let k0 : k ≤ 0 = ltb-false 0 k (sym (ap (λ (z : Turn). z .goes) e₀) ∙ b) in
+          let l0 : first .left ≡ 0 = omega (arith, k0, ap (λ (z : Turn). z .left) e₀) in
+          none-left last m₁ o₁ s₁ within l0 (A .rest b)

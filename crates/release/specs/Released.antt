@@ -52,7 +52,7 @@ module _ (tip : Block) (at : ℕ) (t : Target) (m o : List ℕ) (s : List Block)
 
 -- ---- turns of rule D: view and tip, bytes written, turns left, and whether the last one released something
 abbrev pub firstTurn : Draft → ℕ → Turn
-firstTurn d k = record { goes = true; view = d .counters .view; tip = d .counters .tip; at = d .at; left = k }
+firstTurn d k = record { goes = ltb 0 k; view = d .counters .view; tip = d .counters .tip; at = d .at; left = k }
 
 -- a target is released while turns are left
 abbrev pub allowedOf : Target → Turn → Target

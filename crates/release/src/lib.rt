@@ -295,7 +295,7 @@ fn first_turn(d: Draft, k: usize) -> Turn
     let view = c.view;
     let tip = c.tip;
     Turn {
-        goes: true,
+        goes: 0 < k,
         view,
         tip,
         at: d.at,
@@ -452,9 +452,10 @@ fn finished(d: Draft, r: Turn) -> Draft
     Draft { counters, at: r.at }
 }
 
-// Rule D, again and again. Each release takes a block out of the store, so that for k the number of held blocks is enough.
+// Rule D, again and again. Each release takes a block out of the store, so that for k the number of held blocks is enough; a refused call has none,
+// and then nothing is asked of the memory.
 pub fn release_all(mem: &mut [u8], store: &mut [Block], out: &mut [u8], d: Draft, k: usize) -> Draft
-    requires { ⌜ (k ≤ storeLength) × Ready d (now mem) (now out) (releaseLength * length (take (blockCountOf (now mem)) (now store))) ⌝ }
+    requires { ⌜ (k ≤ storeLength) × ((d .at ≤ length (now out)) × (1 ≤ k → Ready d (now mem) (now out) (releaseLength * length (take (blockCountOf (now mem)) (now store))))) ⌝ }
     ensures { λ r. ⌜ left r (now (mem .exit)) (now (out .exit)) (now (store .exit))
         ≡ leftBy (again k (workOf d (now (mem .entry)) (now (out .entry)) (now (store .entry)))) (now (out .entry)) ⌝ }
 {

@@ -49,7 +49,7 @@ module _ {M : Type 1} (𝓤 : URA M) (H : Heap 𝓤) (A : Atoms 𝓤) (mem : Mem
   Known C = Triple 𝓤 (C first-turn-def.name) first-turnᶜ × (Triple 𝓤 (C turns-128-def.name) turns-128ᶜ × Triple 𝓤 (C finished-def.name) finishedᶜ)
 
 module _ {M : Type 1} (𝓤 : URA M) (H : Heap 𝓤) (A : Atoms 𝓤) (W : Given 𝓤 H A) (mem : Memory → SProp 𝓤) (run : Routine → Fun 𝓤) (κ0 κ1 κ2 : Lft) (q0 q1 q2 : Share) (m-b m-o : ℕ) (m-γ : GName) (m : List ℕ) (ys-b ys-o : ℕ) (ys-γ : GName) (ys : List Block) (out-b out-o : ℕ) (out-γ : GName) (out : List ℕ) (d : Draft) (k : ℕ)
-    (m-room : Room u8 (length m)) (ys-room : Room Blockᴿ (length ys)) (out-room : Room u8 (length out)) (d-is : Is Draftᴿ d ((Draftᴰ .val d) ∷ [])) (k-is : Is u64 k ((word .val k) ∷ [])) (asked : (k ≤ storeLength) × Ready d m out (releaseLength * length (take (blockCountOf m) ys))) where
+    (m-room : Room u8 (length m)) (ys-room : Room Blockᴿ (length ys)) (out-room : Room u8 (length out)) (d-is : Is Draftᴿ d ((Draftᴰ .val d) ∷ [])) (k-is : Is u64 k ((word .val k) ∷ [])) (asked : (k ≤ storeLength) × ((d .at ≤ length out) × (1 ≤ k → Ready d m out (releaseLength * length (take (blockCountOf m) ys))))) where
   abbrev m-n : ℕ
   m-n = length m
 
@@ -83,11 +83,11 @@ module _ {M : Type 1} (𝓤 : URA M) (H : Heap 𝓤) (A : Atoms 𝓤) (W : Given
       let y0 : first-turnᶜ 𝓤 H A mem run .Ghost = ((tt, tt, tt, (d, (k, tt)), ((Draftᴰ .val d) ∷ [], ((word .val k) ∷ [], tt))), tt) in asks ! first-turn.ended (first-turn.clauses 𝓤 H A mem run) y0 0 (of W Draftᴰ d d-is (of W word k k-is end)) refl (id⊢ 𝓤 _) $ calls-at ! fm (first-turnᶜ 𝓤 H A mem run) (known .0) y0 (and-then ! (load ! (from ! (stop !)) (look ! 25 refl)) (and-then ! (load ! (from ! (stop !)) (look ! 23 refl)) (no-more !))) (λ w0. came ! first-turn.ended (first-turn.clauses 𝓤 H A mem run) y0 w0 Turnᴰ 20 refl refl ([]) (λ r ws. r ≡ firstTurn d k) (λ r ws. id⊢ 𝓤 _) (λ r0 ws0 is0 e0. assigns ! (addr ! (from ! (fld ! refl (hop ! (look-in ! 30 (sub ! 0 refl (whole !))) (stop !))))) (from ! (stop !)) (init ! 16 refl (tt, tt)) $ assigns ! (agg ! (and-then ! (load ! (from ! (stop !)) (look ! 16 refl)) (and-then ! (load ! (from ! (fld ! refl (stop !))) (look-in ! 30 (sub ! 1 refl (whole !)))) (no-more !)))) (from ! (stop !)) (init ! 14 refl (tt, (tt, (record { fits = m-room .0 }, tt)))) $ assigns ! (addr ! (from ! (fld ! refl (hop ! (look-in ! 28 (sub ! 0 refl (whole !))) (stop !))))) (from ! (stop !)) (init ! 12 refl (tt, tt)) $ assigns ! (agg ! (and-then ! (load ! (from ! (stop !)) (look ! 12 refl)) (and-then ! (load ! (from ! (fld ! refl (stop !))) (look-in ! 28 (sub ! 1 refl (whole !)))) (no-more !)))) (from ! (stop !)) (init ! 10 refl (tt, (tt, (record { fits = ys-room .0 }, tt)))) $ assigns ! (addr ! (from ! (fld ! refl (hop ! (look-in ! 26 (sub ! 0 refl (whole !))) (stop !))))) (from ! (stop !)) (init ! 8 refl (tt, tt)) $ assigns ! (agg ! (and-then ! (load ! (from ! (stop !)) (look ! 8 refl)) (and-then ! (load ! (from ! (fld ! refl (stop !))) (look-in ! 26 (sub ! 1 refl (whole !)))) (no-more !)))) (from ! (stop !)) (init ! 6 refl (tt, (tt, (record { fits = out-room .0 }, tt)))) $
       -- call 1: `release::turns_128`
       move ! (2 ∷ 5 ∷ []) $ lend-mut ! tt u8 m-b m-o m-n m refl (λ ν1-0 δ1-0. move ! (4 ∷ 6 ∷ []) $ lend-mut ! tt Blockᴿ ys-b ys-o ys-n ys refl (λ ν1-1 δ1-1. move ! (6 ∷ 7 ∷ []) $ lend-mut ! tt u8 out-b out-o out-n out refl (λ ν1-2 δ1-2.
-      let y1 : turns-128ᶜ 𝓤 H A mem run .Ghost = ((((ν1-0 ∷ []), ((ν1-1 ∷ []), ((ν1-2 ∷ []), tt))), (fullShare, (fullShare, (fullShare, tt))), tt, (lying u8 m-b m-o δ1-0 m, (lying Blockᴿ ys-b ys-o δ1-1 ys, (lying u8 out-b out-o δ1-2 out, (r0, tt)))), (m-s ∷ [], (ys-s ∷ [], (out-s ∷ [], ((Turnᴰ .val r0) ∷ [], tt))))), tt) in move ! (6 ∷ 3 ∷ 0 ∷ 7 ∷ 4 ∷ 1 ∷ []) $ asks ! turns-128.ended (turns-128.clauses 𝓤 H A mem run) y1 6 (held (held (held (of W Turnᴰ r0 is0 end)))) refl (so 𝓤 (ready-first d m out ys k r0 e0 (asked .1))) $ calls-at ! fm (turns-128ᶜ 𝓤 H A mem run) (known .1 .0) y1 (and-then ! (load ! (from ! (stop !)) (look ! 12 refl)) (and-then ! (load ! (from ! (stop !)) (look ! 8 refl)) (and-then ! (load ! (from ! (stop !)) (look ! 4 refl)) (and-then ! (load ! (from ! (stop !)) (look ! 18 refl)) (no-more !))))) (λ w1. came ! turns-128.ended (turns-128.clauses 𝓤 H A mem run) y1 w1 Turnᴰ 15 refl refl (true ∷ true ∷ true ∷ false ∷ []) (λ r ws. ByTurns 128 r0 m out ys r (ws .0) (ws .1 .1 .0) (ws .1 .0)) (λ r ws. id⊢ 𝓤 _) (λ r1 ws1 is1 e1. move ! (0 ∷ 3 ∷ 8 ∷ []) $ back-again ! tt u8 m-b m-o m-n m (ws1 .0) m-room refl (λ l1-0. move ! (2 ∷ 4 ∷ 7 ∷ []) $ back-again ! tt Blockᴿ ys-b ys-o ys-n ys (ws1 .1 .0) ys-room refl (λ l1-1. move ! (4 ∷ 5 ∷ 6 ∷ []) $ back-again ! tt u8 out-b out-o out-n out (ws1 .1 .1 .0) out-room refl (λ l1-2.
+      let y1 : turns-128ᶜ 𝓤 H A mem run .Ghost = ((((ν1-0 ∷ []), ((ν1-1 ∷ []), ((ν1-2 ∷ []), tt))), (fullShare, (fullShare, (fullShare, tt))), tt, (lying u8 m-b m-o δ1-0 m, (lying Blockᴿ ys-b ys-o δ1-1 ys, (lying u8 out-b out-o δ1-2 out, (r0, tt)))), (m-s ∷ [], (ys-s ∷ [], (out-s ∷ [], ((Turnᴰ .val r0) ∷ [], tt))))), tt) in move ! (6 ∷ 3 ∷ 0 ∷ 7 ∷ 4 ∷ 1 ∷ []) $ asks ! turns-128.ended (turns-128.clauses 𝓤 H A mem run) y1 6 (held (held (held (of W Turnᴰ r0 is0 end)))) refl (so 𝓤 (ready-first d m out ys k r0 e0 (asked .1 .1))) $ calls-at ! fm (turns-128ᶜ 𝓤 H A mem run) (known .1 .0) y1 (and-then ! (load ! (from ! (stop !)) (look ! 12 refl)) (and-then ! (load ! (from ! (stop !)) (look ! 8 refl)) (and-then ! (load ! (from ! (stop !)) (look ! 4 refl)) (and-then ! (load ! (from ! (stop !)) (look ! 18 refl)) (no-more !))))) (λ w1. came ! turns-128.ended (turns-128.clauses 𝓤 H A mem run) y1 w1 Turnᴰ 15 refl refl (true ∷ true ∷ true ∷ false ∷ []) (λ r ws. ByTurns 128 r0 m out ys r (ws .0) (ws .1 .1 .0) (ws .1 .0)) (λ r ws. id⊢ 𝓤 _) (λ r1 ws1 is1 e1. move ! (0 ∷ 3 ∷ 8 ∷ []) $ back-again ! tt u8 m-b m-o m-n m (ws1 .0) m-room refl (λ l1-0. move ! (2 ∷ 4 ∷ 7 ∷ []) $ back-again ! tt Blockᴿ ys-b ys-o ys-n ys (ws1 .1 .0) ys-room refl (λ l1-1. move ! (4 ∷ 5 ∷ 6 ∷ []) $ back-again ! tt u8 out-b out-o out-n out (ws1 .1 .1 .0) out-room refl (λ l1-2.
       -- call 2: `release::finished`
       let y2 : finishedᶜ 𝓤 H A mem run .Ghost = ((tt, tt, tt, (d, (r1, tt)), ((Draftᴰ .val d) ∷ [], ((Turnᴰ .val r1) ∷ [], tt))), tt) in asks ! finished.ended (finished.clauses 𝓤 H A mem run) y2 0 (of W Draftᴰ d d-is (of W Turnᴰ r1 is1 end)) refl (id⊢ 𝓤 _) $ calls-at ! fm (finishedᶜ 𝓤 H A mem run) (known .1 .1) y2 (and-then ! (load ! (from ! (stop !)) (look ! 25 refl)) (and-then ! (load ! (from ! (stop !)) (look ! 19 refl)) (no-more !))) (λ w2. came ! finished.ended (finished.clauses 𝓤 H A mem run) y2 w2 Draftᴰ 32 refl refl ([]) (λ r ws. r ≡ finishedOf d r1) (λ r ws. id⊢ 𝓤 _) (λ r2 ws2 is2 e2.
       -- the exit
-      returns ! (look ! 32 refl) $ leave ! 6 (full _ ∷ full _ ∷ full _ ∷ full _ ∷ full _ ∷ full _ ∷ full _ ∷ full _ ∷ full _ ∷ full _ ∷ full _ ∷ full _ ∷ full _ ∷ full _ ∷ []) refl $ keep ! (5 ∷ 3 ∷ 1 ∷ 4 ∷ 2 ∷ 0 ∷ []) $ ends W f.ended stayed (f.clauses 𝓤 H A mem run) y (Draftᴰ .val r2) r2 ((ws1 .0), ((ws1 .1 .0), ((ws1 .1 .1 .0), (tt, (tt, tt))))) (l1-0, (l1-1, (l1-2, (tt, (tt, tt))))) (Draftᴰ .makes 𝓤 H A W r2 _ is2) (so 𝓤 (finishes d m out ys k r0 e0 r1 _ _ _ r2 (asked .0) e1 e2)) (held (held (held (made (id⊢ 𝓤 _) (made (id⊢ 𝓤 _) end)))))))))))))))))))))))))))))))
+      returns ! (look ! 32 refl) $ leave ! 6 (full _ ∷ full _ ∷ full _ ∷ full _ ∷ full _ ∷ full _ ∷ full _ ∷ full _ ∷ full _ ∷ full _ ∷ full _ ∷ full _ ∷ full _ ∷ full _ ∷ []) refl $ keep ! (5 ∷ 3 ∷ 1 ∷ 4 ∷ 2 ∷ 0 ∷ []) $ ends W f.ended stayed (f.clauses 𝓤 H A mem run) y (Draftᴰ .val r2) r2 ((ws1 .0), ((ws1 .1 .0), ((ws1 .1 .1 .0), (tt, (tt, tt))))) (l1-0, (l1-1, (l1-2, (tt, (tt, tt))))) (Draftᴰ .makes 𝓤 H A W r2 _ is2) (so 𝓤 (finishes d m out ys k r0 e0 r1 _ _ _ r2 (asked .0) (asked .1 .0) e1 e2)) (held (held (held (made (id⊢ 𝓤 _) (made (id⊢ 𝓤 _) end)))))))))))))))))))))))))))))))
 
 module _ {M : Type 1} (𝓤 : URA M) (H : Heap 𝓤) (A : Atoms 𝓤) (W : Given 𝓤 H A) (mem : Memory → SProp 𝓤) (run : Routine → Fun 𝓤) where
   goes : AllGo 𝓤 H A W 3 (f.signature .params) (f.ended .kept) stayed
@@ -95,7 +95,7 @@ module _ {M : Type 1} (𝓤 : URA M) (H : Heap 𝓤) (A : Atoms 𝓤) (W : Given
 
   walks : (𝓣 : Tables 𝓤 H) → Known 𝓤 H A mem run (𝓣 .C) → Walks 𝓤 H A f.ended stayed (WpFn 𝓤 H (𝓣 .C) (𝓣 .Λ) code.function) (f.clauses 𝓤 H A mem run)
   walks 𝓣 known = walked 𝓤 H A f.ended stayed (f.clauses 𝓤 H A mem run) (WpFn 𝓤 H (𝓣 .C) (𝓣 .Λ) code.function) (λ κs. (slice-vals, (slice-vals, (slice-vals, ((λ x. Draftᴰ .val x ∷ []), ((λ x. word .val x ∷ []), tt)))))) (λ κs. (mut-slice-tells (named 0) (κs .0) u8, (mut-slice-tells (named 1) (κs .1 .0) Blockᴿ, (mut-slice-tells (named 2) (κs .1 .1 .0) u8, (Draftᴰ .tells, (word .tells, tt))))))
-      (λ κs qs bounds a g are. needs 𝓤 (((a .1 .1 .1 .1 .0) ≤ storeLength) × Ready (a .1 .1 .1 .0) (a .0 .now) (a .1 .1 .0 .now) (releaseLength * length (take (blockCountOf (a .0 .now)) (a .1 .0 .now)))) _ (λ asked. walk 𝓤 H A W mem run (κs .0) (κs .1 .0) (κs .1 .1 .0) (qs .0) (qs .1 .0) (qs .1 .1 .0) (a .0 .ptr .0) (a .0 .ptr .1) (a .0 .name) (a .0 .now) (a .1 .0 .ptr .0) (a .1 .0 .ptr .1) (a .1 .0 .name) (a .1 .0 .now) (a .1 .1 .0 .ptr .0) (a .1 .1 .0 .ptr .1) (a .1 .1 .0 .name) (a .1 .1 .0 .now) (a .1 .1 .1 .0) (a .1 .1 .1 .1 .0) (are .0 .0 .1) (are .1 .0 .0 .1) (are .1 .1 .0 .0 .1) (are .1 .1 .1 .0) (are .1 .1 .1 .1 .0) asked (𝓣 .C) (𝓣 .Λ) (fmOf 𝓤 H (W .laws) 𝓣) known))
+      (λ κs qs bounds a g are. needs 𝓤 (((a .1 .1 .1 .1 .0) ≤ storeLength) × (((a .1 .1 .1 .0) .at ≤ length (a .1 .1 .0 .now)) × (1 ≤ (a .1 .1 .1 .1 .0) → Ready (a .1 .1 .1 .0) (a .0 .now) (a .1 .1 .0 .now) (releaseLength * length (take (blockCountOf (a .0 .now)) (a .1 .0 .now)))))) _ (λ asked. walk 𝓤 H A W mem run (κs .0) (κs .1 .0) (κs .1 .1 .0) (qs .0) (qs .1 .0) (qs .1 .1 .0) (a .0 .ptr .0) (a .0 .ptr .1) (a .0 .name) (a .0 .now) (a .1 .0 .ptr .0) (a .1 .0 .ptr .1) (a .1 .0 .name) (a .1 .0 .now) (a .1 .1 .0 .ptr .0) (a .1 .1 .0 .ptr .1) (a .1 .1 .0 .name) (a .1 .1 .0 .now) (a .1 .1 .1 .0) (a .1 .1 .1 .1 .0) (are .0 .0 .1) (are .1 .0 .0 .1) (are .1 .1 .0 .0 .1) (are .1 .1 .1 .0) (are .1 .1 .1 .1 .0) asked (𝓣 .C) (𝓣 .Λ) (fmOf 𝓤 H (W .laws) 𝓣) known))
 
   meets : (𝓣 : Tables 𝓤 H) → Known 𝓤 H A mem run (𝓣 .C) → Meets 𝓤 H A f.signature (WpFn 𝓤 H (𝓣 .C) (𝓣 .Λ) code.function) (f.spec 𝓤 H A mem run)
   meets 𝓣 known = walk-meets 𝓤 H A f.ended stayed W goes (f.clauses 𝓤 H A mem run) (WpFn 𝓤 H (𝓣 .C) (𝓣 .Λ) code.function) (WpFn-mono 𝓤 H (W .laws) 𝓣 code.function) (walks 𝓣 known)

@@ -1,0 +1,76 @@
+-- What the calls hand on from step to step: what `perform` leaves is what rule D asks for, and together they are the calls of protocol. Assumes nothing.
+use Prim.Native.Nat.{ℕ, zero, suc, _*_, _^_, _≤_, _<_}
+use native.Mathlib.Omega.{arith}
+use mathlib.Core.Path.{_≡_, refl, sym, ap, _∙_}
+use mathlib.Core.List.{List}
+use lib.ListN.{length, take, set}
+use Rattle.wire.specs.Fields.{releaseLength}
+use Rattle.wire.specs.Content.{content}
+use Rattle.blocks.specs.declared.Block.{Block}
+use Rattle.blocks.specs.declared.Found.{Found}
+use Rattle.blocks.proofs.Dropping.{held-within}
+use Rattle.memory.specs.Layout.{blockCountOf}
+use Rattle.counters.specs.declared.Counters.{Counters}
+use Rattle.protocol.specs.Work.{Work}
+use Rattle.protocol.specs.Refusals.{storeLength, regionRules, timerRules}
+use Rattle.protocol.specs.Events.{onRecord, onTimer, onPropose}
+use Rattle.protocol.specs.Rules.{again}
+use Rattle.protocol.specs.Calls.{Outcome, recordCall, timerCall, proposeCall, _then_}
+use Rattle.refusals.specs.Number.{firstOf}
+use Rattle.refusals.specs.Early.{lent}
+use Rattle.judge.specs.declared.Want.{Want}
+use Rattle.act.specs.declared.Draft.{Draft}
+use Rattle.act.specs.Draft.{workOf, left, leftBy}
+use Rattle.act.proofs.Steps.{ready-less, ready-facts}
+use Rattle.perform.specs.declared.Done.{Done}
+use Rattle.perform.specs.Perform.{Performs, timerNumber, TimerJudged, proposeNumber, ProposeFound, recordNumber, RecordFound}
+use Rattle.perform.proofs.Calls.{record-outcome, propose-outcome, timer-outcome}
+use Rattle.replica.specs.declared.Reply.{Reply}
+use Rattle.replica.specs.Reply.{replying, lentTo, replied, Concludes}
+
+-- accepted or refused, rule D may be run as often as is said
+pub concludes : {judged : Work → ℕ} {f : Work → Work} {given : Work → Type 0} {c : Counters} {m o : List ℕ} {e : Done} {m′ o′ : List ℕ} (s : List Block)
+    → Performs judged f given c m o e m′ o′ → Concludes e m′ o′ s
+concludes {judged} {f} {given} {c} {m} {o} {e} {m′} {o′} s p = by (e .refusal) refl
+  where
+    by : (k : ℕ) → e .refusal ≡ k → Concludes e m′ o′ s
+    by zero q =
+        let a = p .completes q in
+        let R = a .ready in
+        let fits : releaseLength * length (take (blockCountOf m′) (set s (e .place) (e .block))) ≤ releaseLength * storeLength =
+        omega (arith, held-within (blockCountOf m′) (set s (e .place) (e .block)) .0, ready-facts (e .draft) m′ o′ R .blocks) in
+        record {
+          few = omega (arith, a .turns, ready-facts (e .draft) m′ o′ R .blocks);
+          within = omega (arith, R .room);
+          ready = λ _. ready-less (e .draft) m′ o′ (releaseLength * storeLength) _ fits R;
+        }
+    by (suc k) q =
+        let x = p .refused (λ z. let y : suc k ≡ 0 = sym q ∙ z in omega arith) .0 in
+        let idle : e .turns ≡ 0 = ap (λ (y : Done). y .turns) x in
+        let at0 : e .draft .at ≡ 0 = ap (λ (y : Done). y .draft .at) x in
+        record { few = omega (arith, idle); within = omega (arith, at0); ready = λ h. absurd (omega (arith, h, idle)) }
+
+pub timer-judged : (room v k : ℕ) (W : Work) → k ≡ firstOf (regionRules W room then timerRules W v) → TimerJudged room v k W
+unfolding timerNumber
+timer-judged room v k W e = e
+
+-- ---- each call, from what its steps leave
+module _ (c : Counters) (m o : List ℕ) (s : List Block) (short : length s < 2 ^ 64) (e : Done) (m′ o′ : List ℕ) (d : Draft) (m₂ o₂ : List ℕ) (s₂ : List Block)
+    (turned : left d m₂ o₂ s₂ ≡ leftBy (again (e .turns) (workOf (e .draft) m′ o′ (set s (e .place) (e .block)))) o′) (r : Reply) (said : r ≡ replying (e .refusal) (d .at)) where
+  answers : (x : Outcome) → x ≡ replied (replying (e .refusal) (d .at)) (d .counters) m₂ s₂ o₂ → replied r (d .counters) m₂ s₂ o₂ ≡ x
+  answers x y = rw said (sym y)
+
+  pub record-is : (b : List ℕ) (w : Want) (found under : Found) → RecordFound (length o) b w found under (lent c m s)
+      → Performs (recordNumber (length o) b) (onRecord b (content b)) (RecordFound (length o) b w found under) c m o e m′ o′
+      → replied r (d .counters) m₂ s₂ o₂ ≡ recordCall (lentTo c m s) o b
+  record-is b w found under g p = answers _ (record-outcome (lentTo c m s) o short e m′ o′ b w found under g p turned)
+
+  pub propose-is : (x : List ℕ) (w : Want) (found under : Found) → ProposeFound (length o) x w found under (lent c m s)
+      → Performs (proposeNumber (length o) x) (onPropose x) (ProposeFound (length o) x w found under) c m o e m′ o′
+      → replied r (d .counters) m₂ s₂ o₂ ≡ proposeCall (lentTo c m s) o x
+  propose-is x w found under g p = answers _ (propose-outcome (lentTo c m s) o short e m′ o′ x w found under g p turned)
+
+  pub timer-is : (v k : ℕ) → TimerJudged (length o) v k (lent c m s)
+      → Performs (timerNumber (length o) v) (onTimer v) (TimerJudged (length o) v k) c m o e m′ o′
+      → replied r (d .counters) m₂ s₂ o₂ ≡ timerCall (lentTo c m s) o v
+  timer-is v k g p = answers _ (timer-outcome (lentTo c m s) o short e m′ o′ v k g p turned)

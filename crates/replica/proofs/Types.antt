@@ -1,0 +1,94 @@
+-- The structs of `replica` in a walk: of each the row, the MIR type, the `Data`, and the relation of each field. tools/walk.py wrote it. Assumes nothing.
+use Rattle.walks.proofs.Walk.LL
+use mir.Syntax.{Ty}
+use denote.RattleType.{RattleType}
+use Rattle.walks.proofs.Data.{Data, At, again, word, bytes, struct, field-bytes}
+use Rattle.counters.proofs.Types.{Countersᴰ}
+use Rattle.blocks.proofs.Types.{Blockᴰ}
+use Rattle.act.specs.declared.Draft.{Draft}
+use Rattle.act.proofs.Draft as Draftᵐ
+use Rattle.act.proofs.Draft.Laws as Draft′
+use Rattle.judge.specs.declared.Want.{Want}
+use Rattle.judge.proofs.Want as Wantᵐ
+use Rattle.judge.proofs.Want.Laws as Want′
+use Rattle.perform.specs.declared.Done.{Done}
+use Rattle.perform.proofs.Done as Doneᵐ
+use Rattle.perform.proofs.Done.Laws as Done′
+use Rattle.replica.specs.declared.Reply.{Reply}
+use Rattle.replica.proofs.Reply as Replyᵐ
+use Rattle.replica.proofs.Reply.Laws as Reply′
+
+abbrev pub Draftᴿ : RattleType
+Draftᴿ = Draftᵐ.the-row
+
+abbrev pub Draftᵀ : Ty
+Draftᵀ = Draft′.mir
+
+abbrev pub Draftᴰ : Data Draftᴿ
+Draftᴰ = struct Draftᵐ.the-type Draft′.the-laws Draft′.the-plain Draft′.lowers
+
+pub Draft-counters : (x : Draft) → At Draftᴰ x → At Countersᴰ (x .counters)
+Draft-counters x is = again Countersᴰ (x .counters) _ (LL.owed Draftᵐ.the-type Draft′.the-laws x _ is .0)
+
+pub Draft-at : (x : Draft) → At Draftᴰ x → At word (x .at)
+Draft-at x is = LL.owed Draftᵐ.the-type Draft′.the-laws x _ is .1 .0
+
+abbrev pub Wantᴿ : RattleType
+Wantᴿ = Wantᵐ.the-row
+
+abbrev pub Wantᵀ : Ty
+Wantᵀ = Want′.mir
+
+abbrev pub Wantᴰ : Data Wantᴿ
+Wantᴰ = struct Wantᵐ.the-type Want′.the-laws Want′.the-plain Want′.lowers
+
+pub Want-refusal : (x : Want) → At Wantᴰ x → At word (x .refusal)
+Want-refusal x is = LL.owed Wantᵐ.the-type Want′.the-laws x _ is .0
+
+pub Want-count : (x : Want) → At Wantᴰ x → At word (x .count)
+Want-count x is = LL.owed Wantᵐ.the-type Want′.the-laws x _ is .1 .0
+
+pub Want-name : (x : Want) → At Wantᴰ x → At (bytes 32) (x .name)
+Want-name x is = field-bytes 32 (x .name) (LL.owed Wantᵐ.the-type Want′.the-laws x _ is .1 .1 .0)
+
+pub Want-base : (x : Want) → At Wantᴰ x → At (bytes 32) (x .base)
+Want-base x is = field-bytes 32 (x .base) (LL.owed Wantᵐ.the-type Want′.the-laws x _ is .1 .1 .1 .0)
+
+abbrev pub Doneᴿ : RattleType
+Doneᴿ = Doneᵐ.the-row
+
+abbrev pub Doneᵀ : Ty
+Doneᵀ = Done′.mir
+
+abbrev pub Doneᴰ : Data Doneᴿ
+Doneᴰ = struct Doneᵐ.the-type Done′.the-laws Done′.the-plain Done′.lowers
+
+pub Done-refusal : (x : Done) → At Doneᴰ x → At word (x .refusal)
+Done-refusal x is = LL.owed Doneᵐ.the-type Done′.the-laws x _ is .0
+
+pub Done-draft : (x : Done) → At Doneᴰ x → At Draftᴰ (x .draft)
+Done-draft x is = again Draftᴰ (x .draft) _ (LL.owed Doneᵐ.the-type Done′.the-laws x _ is .1 .0)
+
+pub Done-place : (x : Done) → At Doneᴰ x → At word (x .place)
+Done-place x is = LL.owed Doneᵐ.the-type Done′.the-laws x _ is .1 .1 .0
+
+pub Done-block : (x : Done) → At Doneᴰ x → At Blockᴰ (x .block)
+Done-block x is = again Blockᴰ (x .block) _ (LL.owed Doneᵐ.the-type Done′.the-laws x _ is .1 .1 .1 .0)
+
+pub Done-turns : (x : Done) → At Doneᴰ x → At word (x .turns)
+Done-turns x is = LL.owed Doneᵐ.the-type Done′.the-laws x _ is .1 .1 .1 .1 .0
+
+abbrev pub Replyᴿ : RattleType
+Replyᴿ = Replyᵐ.the-row
+
+abbrev pub Replyᵀ : Ty
+Replyᵀ = Reply′.mir
+
+abbrev pub Replyᴰ : Data Replyᴿ
+Replyᴰ = struct Replyᵐ.the-type Reply′.the-laws Reply′.the-plain Reply′.lowers
+
+pub Reply-refusal : (x : Reply) → At Replyᴰ x → At word (x .refusal)
+Reply-refusal x is = LL.owed Replyᵐ.the-type Reply′.the-laws x _ is .0
+
+pub Reply-written : (x : Reply) → At Replyᴰ x → At word (x .written)
+Reply-written x is = LL.owed Replyᵐ.the-type Reply′.the-laws x _ is .1 .0
