@@ -17,6 +17,9 @@ use Rattle.perform.proofs.Done.Laws as Done′
 use Rattle.replica.specs.declared.Reply.{Reply}
 use Rattle.replica.proofs.Reply as Replyᵐ
 use Rattle.replica.proofs.Reply.Laws as Reply′
+use Rattle.replica.specs.declared.Opened.{Opened}
+use Rattle.replica.proofs.Opened as Openedᵐ
+use Rattle.replica.proofs.Opened.Laws as Opened′
 
 abbrev pub Draftᴿ : RattleType
 Draftᴿ = Draftᵐ.the-row
@@ -92,3 +95,18 @@ Reply-refusal x is = LL.owed Replyᵐ.the-type Reply′.the-laws x _ is .0
 
 pub Reply-written : (x : Reply) → At Replyᴰ x → At word (x .written)
 Reply-written x is = LL.owed Replyᵐ.the-type Reply′.the-laws x _ is .1 .0
+
+abbrev pub Openedᴿ : RattleType
+Openedᴿ = Openedᵐ.the-row
+
+abbrev pub Openedᵀ : Ty
+Openedᵀ = Opened′.mir
+
+abbrev pub Openedᴰ : Data Openedᴿ
+Openedᴰ = struct Openedᵐ.the-type Opened′.the-laws Opened′.the-plain Opened′.lowers
+
+pub Opened-refusal : (x : Opened) → At Openedᴰ x → At word (x .refusal)
+Opened-refusal x is = LL.owed Openedᵐ.the-type Opened′.the-laws x _ is .0
+
+pub Opened-counters : (x : Opened) → At Openedᴰ x → At Countersᴰ (x .counters)
+Opened-counters x is = again Countersᴰ (x .counters) _ (LL.owed Openedᵐ.the-type Opened′.the-laws x _ is .1 .0)

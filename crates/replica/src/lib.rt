@@ -1,22 +1,30 @@
-// The replica: record, timer and propose on lent counters, memory, store and output.
-// Promises: each call, on any content and length of what is lent and with any input, replies and leaves what `recordCall`, `timerCall` and `proposeCall`
-// of `protocol` say, of which demand 3 speaks. No function has a `requires`. Rests on `judge`, `perform` and `release`; the calls have no branch.
+// The replica: open, record, timer and propose on lent counters, memory, store and output.
+// Promises: each call, on any content and length of what is lent and with any input, replies and leaves what `openingCall`, `recordCall`, `timerCall` and
+// `proposeCall` of `protocol` say, of which demand 3 speaks. No function has a `requires`. Rests on `judge`, `perform` and `release`; the calls have no branch.
 use act::Draft;
 use blocks::Block;
 use blocks::fill;
 use blocks::held;
 use counters::Counters;
+use counters::opened;
+use event::host::open_memory;
 use perform::Done;
 use release::release_all;
+use settings::Admission;
+use settings::Settings;
+use settings::admit;
 ghost use mathlib.Core.Path.{_≡_};
+ghost use mathlib.Core.List.{List, []};
 ghost use Prim.Native.Nat.{_*_, _≤_};
 ghost use lib.ListN.{length, take, set};
 ghost use Rattle.wire.specs.Fields.{releaseLength};
 ghost use Rattle.memory.specs.Layout.{blockCountOf};
 ghost use Rattle.protocol.specs.Refusals.{storeLength};
 ghost use Rattle.protocol.specs.Rules.{again};
-ghost use Rattle.protocol.specs.Calls.{recordCall, timerCall, proposeCall};
+ghost use Rattle.protocol.specs.Calls.{recordCall, timerCall, proposeCall, openingCall};
 ghost use Rattle.act.specs.Draft.{workOf, left, leftBy};
+ghost use Rattle.blocks.specs.declared.Block.{Block};
+ghost use Rattle.replica.specs.Openings.{openedOutcome, admitted};
 ghost use Rattle.replica.specs.Reply.{Concludes, replying, lentTo, replied};
 
 // 01's number of the refusal and no bytes; or 0, and the number of bytes written.
@@ -101,4 +109,76 @@ pub fn propose(
     let d = conclude(mem, store, out, done);
     *counters = d.counters;
     answer(done.refusal, d.at)
+}
+
+// 01's number of the refusal, or 0, and the counters.
+struct Opened {
+    refusal: u64,
+    counters: Counters,
+}
+
+// Of settings that were admitted only the lengths of memory and store are left to judge.
+fn open_admitted(c: Counters, mem: &mut [u8], entries: usize, s: Settings, own: u16) -> Opened
+    ensures { λ r. ⌜ ((l : List Block) → length l ≡ entries → openedOutcome r (now (mem .exit)) l ≡ admitted (lentTo c (now (mem .entry)) l) s own) ⌝ }
+{
+    if mem.len() < 34504 {
+        return Opened {
+            refusal: 2,
+            counters: c,
+        };
+    }
+    if entries < 128 {
+        return Opened {
+            refusal: 2,
+            counters: c,
+        };
+    }
+    open_memory(mem, s, own);
+    Opened {
+        refusal: 0,
+        counters: opened(),
+    }
+}
+
+// An opening, but for the store, which it leaves as it is.
+fn opening(
+    counters: Counters,
+    mem: &mut [u8],
+    entries: usize,
+    f: u64,
+    c: u64,
+    k: u64,
+    n: u64,
+    own: u64,
+) -> Opened
+    ensures { λ r. ⌜ ((l : List Block) → length l ≡ entries → openedOutcome r (now (mem .exit)) l ≡ openingCall (lentTo counters (now (mem .entry)) l) f c k n own) ⌝ }
+{
+    let admission = admit(f, c, k, n, own);
+    match admission {
+        Admission::Admitted(s) => open_admitted(counters, mem, entries, s, own as u16),
+        Admission::Refused => Opened {
+            refusal: 1,
+            counters,
+        },
+    }
+}
+
+// The opening: settings, n and own number. The store only has to be long enough.
+pub fn open(
+    counters: &mut Counters,
+    mem: &mut [u8],
+    store: &[Block],
+    f: u64,
+    c: u64,
+    k: u64,
+    n: u64,
+    own: u64,
+) -> Reply
+    ensures { λ r. ⌜ replied r (now (counters .exit)) (now (mem .exit)) (now (store .entry)) []
+        ≡ openingCall (lentTo (now (counters .entry)) (now (mem .entry)) (now (store .entry))) f c k n own ⌝ }
+{
+    let old = *counters;
+    let done = opening(old, mem, store.len(), f, c, k, n, own);
+    *counters = done.counters;
+    answer(done.refusal, 0)
 }
