@@ -17,6 +17,9 @@ use Rattle.perform.proofs.Done.Laws as Done′
 use Rattle.replica.specs.declared.Reply.{Reply}
 use Rattle.replica.proofs.Reply as Replyᵐ
 use Rattle.replica.proofs.Reply.Laws as Reply′
+use Rattle.replica.specs.declared.Name.{Name}
+use Rattle.replica.proofs.Name as Nameᵐ
+use Rattle.replica.proofs.Name.Laws as Name′
 use Rattle.replica.specs.declared.Opened.{Opened}
 use Rattle.replica.proofs.Opened as Openedᵐ
 use Rattle.replica.proofs.Opened.Laws as Opened′
@@ -95,6 +98,18 @@ Reply-refusal x is = LL.owed Replyᵐ.the-type Reply′.the-laws x _ is .0
 
 pub Reply-written : (x : Reply) → At Replyᴰ x → At word (x .written)
 Reply-written x is = LL.owed Replyᵐ.the-type Reply′.the-laws x _ is .1 .0
+
+abbrev pub Nameᴿ : RattleType
+Nameᴿ = Nameᵐ.the-row
+
+abbrev pub Nameᵀ : Ty
+Nameᵀ = Name′.mir
+
+abbrev pub Nameᴰ : Data Nameᴿ
+Nameᴰ = struct Nameᵐ.the-type Name′.the-laws Name′.the-plain Name′.lowers
+
+pub Name-bytes : (x : Name) → At Nameᴰ x → At (bytes 32) (x .bytes)
+Name-bytes x is = field-bytes 32 (x .bytes) (LL.owed Nameᵐ.the-type Name′.the-laws x _ is .0)
 
 abbrev pub Openedᴿ : RattleType
 Openedᴿ = Openedᵐ.the-row

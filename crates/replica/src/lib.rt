@@ -1,6 +1,7 @@
 // The replica: open, record, timer and propose on lent counters, memory, store and output.
 // Promises: each call, on any content and length of what is lent and with any input, replies and leaves what `openingCall`, `recordCall`, `timerCall` and
-// `proposeCall` of `protocol` say, of which demand 3 speaks. No function has a `requires`. Rests on `judge`, `perform` and `release`; the calls have no branch.
+// `proposeCall` of `protocol` say, of which demand 3 speaks. No public function has a `requires`. Rests on `judge`, `perform` and `release`; the calls have no branch.
+// They are exported by their own names, hence the prefix: a library that exports `open` would take the place of the C library's.
 use act::Draft;
 use blocks::Block;
 use blocks::fill;
@@ -34,6 +35,12 @@ pub struct Reply {
     pub written: usize,
 }
 
+// A name by value: an array by itself does not cross the library's boundary.
+#[repr(C)]
+pub struct Name {
+    pub bytes: [u8; 32],
+}
+
 fn answer(refusal: u64, written: usize) -> Reply
     ensures { λ r. ⌜ r ≡ replying refusal written ⌝ }
 {
@@ -51,7 +58,8 @@ fn conclude(mem: &mut [u8], store: &mut [Block], out: &mut [u8], done: Done) -> 
 }
 
 // A record of any bytes.
-pub fn record(
+#[no_mangle]
+pub extern "C" fn hydrangea_record(
     counters: &mut Counters,
     mem: &mut [u8],
     store: &mut [Block],
@@ -72,7 +80,8 @@ pub fn record(
 }
 
 // The timer of a view.
-pub fn timer(
+#[no_mangle]
+pub extern "C" fn hydrangea_timer(
     counters: &mut Counters,
     mem: &mut [u8],
     store: &mut [Block],
@@ -91,21 +100,22 @@ pub fn timer(
 }
 
 // A block of a name is proposed.
-pub fn propose(
+#[no_mangle]
+pub extern "C" fn hydrangea_propose(
     counters: &mut Counters,
     mem: &mut [u8],
     store: &mut [Block],
     out: &mut [u8],
-    name: [u8; 32],
+    name: Name,
 ) -> Reply
     ensures { λ r. ⌜ replied r (now (counters .exit)) (now (mem .exit)) (now (store .exit)) (now (out .exit))
-        ≡ proposeCall (lentTo (now (counters .entry)) (now (mem .entry)) (now (store .entry))) (now (out .entry)) name ⌝ }
+        ≡ proposeCall (lentTo (now (counters .entry)) (now (mem .entry)) (now (store .entry))) (now (out .entry)) (name .bytes) ⌝ }
 {
     let c = *counters;
-    let want = judge::propose(c, mem, store.len(), out.len(), name);
+    let want = judge::propose(c, mem, store.len(), out.len(), name.bytes);
     let found = held(store, want.count, c.tip, want.name);
     let under = held(store, want.count, c.tip, want.base);
-    let done = perform::propose(c, mem, out, name, want, found, under);
+    let done = perform::propose(c, mem, out, name.bytes, want, found, under);
     let d = conclude(mem, store, out, done);
     *counters = d.counters;
     answer(done.refusal, d.at)
@@ -164,7 +174,8 @@ fn opening(
 }
 
 // The opening: settings, n and own number. The store only has to be long enough.
-pub fn open(
+#[no_mangle]
+pub extern "C" fn hydrangea_open(
     counters: &mut Counters,
     mem: &mut [u8],
     store: &[Block],

@@ -8,8 +8,6 @@ use borrow.Author.Needs.{needs}
 use native.Mathlib.Omega.{arith}
 use Rattle.replica.proofs.open_admitted.Statement.{statement}
 use Rattle.replica.proofs.open_admitted.Tie as tie
-
-
 use Rattle.counters.proofs.opened.Reads as opened-reads
 use Rattle.event.proofs.host.open_memory.Reads as open-memory-reads
 

@@ -8,9 +8,6 @@ use borrow.Author.Needs.{needs}
 use native.Mathlib.Omega.{arith}
 use Rattle.replica.proofs.opening.Statement.{statement}
 use Rattle.replica.proofs.opening.Tie as tie
-
-
-
 use Rattle.settings.proofs.admit.Reads as admit-reads
 
 admit-requires : tie.Need-admit-requires

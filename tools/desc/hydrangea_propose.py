@@ -1,5 +1,5 @@
 {
-    'fn': 'replica::propose',
+    'fn': 'replica::hydrangea_propose',
     'kit': 'walks',
     'types': {'settings': 'counters', 'wire': 'counters', 'certificate': 'counters', 'act': 'replica', 'perform': 'replica', 'judge': 'replica'},
     'params': ['cs', 'm', 'ys', 'out', 'name'],
@@ -14,7 +14,7 @@
         '(record { store = ys; given = record { want = e0 ys refl; found = e1; under = e2 } })',
         '(concludes ys e3)',
     ],
-    'says': ['(propose-is cs m out ys (ys-room .0) r3 _ _ r4 _ _ _ e4 r5 e5 name r0 r1 r2 (record { want = e0 ys refl; found = e1; under = e2 }) e3)'],
+    'says': ['(propose-is cs m out ys (ys-room .0) r3 _ _ r4 _ _ _ e4 r5 e5 (name .bytes) r0 r1 r2 (record { want = e0 ys refl; found = e1; under = e2 }) e3)'],
     'spec': {
         'mathlib.Core.List': ['List'],
         'lib.ListN': ['length', 'take', 'set'],

@@ -1,4 +1,4 @@
--- `replica::timer` meets its contract: a walk of its MIR. tools/walk.py wrote it from timer.py.
+-- `replica::hydrangea_timer` meets its contract: a walk of its MIR. tools/walk.py wrote it from hydrangea_timer.py.
 -- Assumes nothing.
 use Rattle.walks.proofs.Walk.{_≡_, refl, ℕ, [], _∷_, List, length, set, URA, fullShare, named, Val, vptr, SProp, ent, id⊢, emp, via, fst∗, GName, Lft, Share, ftrue, flft, Memory, Routine, Heap, Calls, Loops, WpFn, Tables, Atoms, Fun, givenOf, tables, tablesOf, Given, ‵, _⊛_, _$_, _∵_, !, qed, move, drop, split, fsplit, fsplit3, fjoin3, feqI, given, keep, look, look-raw, init, store-raw, stop, hop, fld, from, load, addr, of-opd, and-then, no-more, assigns, returns, enter, alloc1, alloc0}
 use Rattle.walks.proofs.Walk.{params1, pass1, pass0, store, agg, whole, sub, look-in, FmC, fmOf, WpFn-mono, owns, Is, shows, mem, u8, u64, MutRef, ptr-vals, mut-tells, sliceVal, MutSlice, Room, slice-vals, mut-slice-tells, plain, opens, closes, owned, peeks, spelt, onEntry, Meets, tripleOf, Contract, Triple, calls-at, entered, cited, Stays, stay-ref, stay-dropped, walkOf, AllGo, goes-dropped, goes-ref, Walks, walked, walk-meets, stay-slice, goes-slice, yes, true, false}
@@ -39,10 +39,10 @@ use Rattle.replica.proofs.conclude.Met as conclude-thm
 use Rattle.replica.proofs.answer as answer
 use Rattle.replica.proofs.answer.Symbol as answer-def
 use Rattle.replica.proofs.answer.Met as answer-thm
-use Rattle.replica.proofs.timer.Key.{name as #f}
-use Rattle.replica.proofs.timer as f
-use Rattle.replica.proofs.timer.Statement as stated
-use Rattle.replica.proofs.timer.Code as code
+use Rattle.replica.proofs.hydrangea_timer.Key.{name as #f}
+use Rattle.replica.proofs.hydrangea_timer as f
+use Rattle.replica.proofs.hydrangea_timer.Statement as stated
+use Rattle.replica.proofs.hydrangea_timer.Code as code
 
 abbrev stayed : Stays (f.ended .signature .params) (f.ended .kept)
 stayed = (stay-ref (0 ∷ []) tt (plain (λ _. Countersᴿ)), (stay-slice (1 ∷ []) tt (plain (λ _. u8)), (stay-slice (2 ∷ []) tt (plain (λ _. Blockᴿ)), (stay-slice (3 ∷ []) tt (plain (λ _. u8)), (stay-dropped (plain (λ _. u64)) yes, tt)))))
@@ -120,9 +120,9 @@ module _ {M : Type 1} (𝓤 : URA M) (H : Heap 𝓤) (A : Atoms 𝓤) (W : Given
   meets : (𝓣 : Tables 𝓤 H) → Known 𝓤 H A mem run (𝓣 .C) → Meets 𝓤 H A f.signature (WpFn 𝓤 H (𝓣 .C) (𝓣 .Λ) code.function) (f.spec 𝓤 H A mem run)
   meets 𝓣 known = walk-meets 𝓤 H A f.ended stayed W goes (f.clauses 𝓤 H A mem run) (WpFn 𝓤 H (𝓣 .C) (𝓣 .Λ) code.function) (WpFn-mono 𝓤 H (W .laws) 𝓣 code.function) (walks 𝓣 known)
 
-pub timer-spec : {M : Type 1} → stated.statement M
+pub hydrangea-timer-spec : {M : Type 1} → stated.statement M
 unfolding code.routine tablesOf
-timer-spec 𝓤 H 𝓜 𝓖 𝓡 =
+hydrangea-timer-spec 𝓤 H 𝓜 𝓖 𝓡 =
     entered 𝓤 H (tripleOf 𝓤 H (𝓖 .A) f.signature (f.spec 𝓤 H (𝓖 .A) (𝓜 .mem) (𝓡 .run)))
     (tables 𝓤 H 𝓜 𝓡 code.env .C) (tables 𝓤 H 𝓜 𝓡 code.env .Λ) #f code.function (code.unfolded 𝓤 H 𝓜 𝓡)
     (meets 𝓤 H (𝓖 .A) (givenOf 𝓤 H 𝓜 𝓖) (𝓜 .mem) (𝓡 .run) (tablesOf 𝓤 H 𝓜 (tables 𝓤 H 𝓜 𝓡 code.env))

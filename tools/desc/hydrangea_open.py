@@ -1,5 +1,5 @@
 {
-    'fn': 'replica::open',
+    'fn': 'replica::hydrangea_open',
     'kit': 'walks',
     'types': {'settings': 'counters', 'wire': 'counters', 'certificate': 'counters'},
     'params': ['cs', 'm', 'ys', 'lies', 'stops', 'k', 'n', 'me'],

@@ -1,4 +1,4 @@
--- `replica::record` meets its contract: a walk of its MIR. tools/walk.py wrote it from record.py.
+-- `replica::hydrangea_record` meets its contract: a walk of its MIR. tools/walk.py wrote it from hydrangea_record.py.
 -- Assumes nothing.
 use Rattle.walks.proofs.Walk.{_≡_, refl, ℕ, [], _∷_, List, length, set, URA, fullShare, named, Val, vptr, SProp, ent, id⊢, emp, via, fst∗, GName, Lft, Share, ftrue, flft, Memory, Routine, Heap, Calls, Loops, WpFn, Tables, Atoms, Fun, givenOf, tables, tablesOf, Given, ‵, _⊛_, _$_, _∵_, !, qed, move, drop, use1, split, fsplit, fsplit3, fjoin3, feqI, given, keep, look, look-raw, init, store-raw, stop, hop, fld, from, load, addr, of-opd, and-then, no-more, assigns, returns, enter, alloc1}
 use Rattle.walks.proofs.Walk.{alloc0, params1, pass1, pass0, store, agg, whole, sub, look-in, FmC, fmOf, WpFn-mono, owns, Is, shows, mem, u8, MutRef, ptr-vals, mut-tells, sliceVal, MutSlice, Room, slice-vals, mut-slice-tells, ShrSlice, shr-slice-tells, shr-slice-copy, plain, shrSliceOf, opens, closes, owned, peeks, spelt, onEntry, Meets, tripleOf, Contract, Triple, calls-at, entered, cited, Stays, stay-ref, stay-dropped, walkOf, AllGo, goes-dropped, goes-ref, Walks, walked, walk-meets, stay-slice, goes-slice, yes, true, false}
@@ -44,10 +44,10 @@ use Rattle.replica.proofs.conclude.Met as conclude-thm
 use Rattle.replica.proofs.answer as answer
 use Rattle.replica.proofs.answer.Symbol as answer-def
 use Rattle.replica.proofs.answer.Met as answer-thm
-use Rattle.replica.proofs.record.Key as key
-use Rattle.replica.proofs.record as f
-use Rattle.replica.proofs.record.Statement as stated
-use Rattle.replica.proofs.record.Code as code
+use Rattle.replica.proofs.hydrangea_record.Key.{name as #f}
+use Rattle.replica.proofs.hydrangea_record as f
+use Rattle.replica.proofs.hydrangea_record.Statement as stated
+use Rattle.replica.proofs.hydrangea_record.Code as code
 
 abbrev stayed : Stays (f.ended .signature .params) (f.ended .kept)
 stayed = (stay-ref (0 ∷ []) tt (plain (λ _. Countersᴿ)), (stay-slice (1 ∷ []) tt (plain (λ _. u8)), (stay-slice (2 ∷ []) tt (plain (λ _. Blockᴿ)), (stay-slice (3 ∷ []) tt (plain (λ _. u8)), (stay-dropped (shrSliceOf (4 ∷ []) tt (plain (λ _. u8))) yes, tt)))))
@@ -140,10 +140,10 @@ module _ {M : Type 1} (𝓤 : URA M) (H : Heap 𝓤) (A : Atoms 𝓤) (W : Given
   meets : (𝓣 : Tables 𝓤 H) → Known 𝓤 H A mem run (𝓣 .C) → Meets 𝓤 H A f.signature (WpFn 𝓤 H (𝓣 .C) (𝓣 .Λ) code.function) (f.spec 𝓤 H A mem run)
   meets 𝓣 known = walk-meets 𝓤 H A f.ended stayed W goes (f.clauses 𝓤 H A mem run) (WpFn 𝓤 H (𝓣 .C) (𝓣 .Λ) code.function) (WpFn-mono 𝓤 H (W .laws) 𝓣 code.function) (walks 𝓣 known)
 
-pub record-spec : {M : Type 1} → stated.statement M
+pub hydrangea-record-spec : {M : Type 1} → stated.statement M
 unfolding code.routine tablesOf
-record-spec 𝓤 H 𝓜 𝓖 𝓡 =
+hydrangea-record-spec 𝓤 H 𝓜 𝓖 𝓡 =
     entered 𝓤 H (tripleOf 𝓤 H (𝓖 .A) f.signature (f.spec 𝓤 H (𝓖 .A) (𝓜 .mem) (𝓡 .run)))
-    (tables 𝓤 H 𝓜 𝓡 code.env .C) (tables 𝓤 H 𝓜 𝓡 code.env .Λ) key.name code.function (code.unfolded 𝓤 H 𝓜 𝓡)
+    (tables 𝓤 H 𝓜 𝓡 code.env .C) (tables 𝓤 H 𝓜 𝓡 code.env .Λ) #f code.function (code.unfolded 𝓤 H 𝓜 𝓡)
     (meets 𝓤 H (𝓖 .A) (givenOf 𝓤 H 𝓜 𝓖) (𝓜 .mem) (𝓡 .run) (tablesOf 𝓤 H 𝓜 (tables 𝓤 H 𝓜 𝓡 code.env))
     (cited 𝓤 H (judge-recordᶜ 𝓤 H (𝓖 .A) (𝓜 .mem) (𝓡 .run)) 𝓜 𝓡 code.env judge-record-def.name judge-record-def.routine code.calls-judge·record (judge-record-thm.met 𝓤 H 𝓜 𝓖 𝓡), (cited 𝓤 H (heldᶜ 𝓤 H (𝓖 .A) (𝓜 .mem) (𝓡 .run)) 𝓜 𝓡 code.env held-def.name held-def.routine code.calls-blocks·held (held-thm.met 𝓤 H 𝓜 𝓖 𝓡), (cited 𝓤 H (perform-recordᶜ 𝓤 H (𝓖 .A) (𝓜 .mem) (𝓡 .run)) 𝓜 𝓡 code.env perform-record-def.name perform-record-def.routine code.calls-perform·record (perform-record-thm.met 𝓤 H 𝓜 𝓖 𝓡), (cited 𝓤 H (concludeᶜ 𝓤 H (𝓖 .A) (𝓜 .mem) (𝓡 .run)) 𝓜 𝓡 code.env conclude-def.name conclude-def.routine code.calls-replica·conclude (conclude-thm.met 𝓤 H 𝓜 𝓖 𝓡), cited 𝓤 H (answerᶜ 𝓤 H (𝓖 .A) (𝓜 .mem) (𝓡 .run)) 𝓜 𝓡 code.env answer-def.name answer-def.routine code.calls-replica·answer (answer-thm.met 𝓤 H 𝓜 𝓖 𝓡))))))
