@@ -18,7 +18,7 @@ use Rattle.blocks.specs.Store.{descends, ancestry, releases, kept, dropped}
 use Rattle.blocks.proofs.Kept.{dropped-held}
 use Rattle.blocks.proofs.Linked.{In}
 use Rattle.blocks.proofs.Fewer.{held-entry, released-fewer}
-use Rattle.memory.specs.Layout.{blockCountOf, withBlockCount}
+use Rattle.memory.specs.Layout.{ownOf, blockCountOf, withBlockCount}
 use Rattle.memory.specs.Window.{lowest, highest}
 use Rattle.memory.proofs.Header.{length-with-count}
 use Rattle.counters.specs.declared.Counters.{Counters}
@@ -29,12 +29,12 @@ use Rattle.protocol.specs.Rules.{Pair, lowestPair, ballotViews, ruleD, again}
 use Rattle.protocol.proofs.Output.{lowest-is}
 use Rattle.act.specs.declared.Draft.{Draft}
 use Rattle.act.specs.Draft.{workOf, Left, left, leftBy, Ready}
-use Rattle.act.proofs.Steps.{does-nothing}
 use Rattle.release.specs.Search.{standing, knownBy, noTarget, target, targetOf, lowestTarget}
-use Rattle.release.specs.Released.{recordsOf, Releases, Released, ReleasedIf, firstTurn, allowedOf, nextTurn, draftAt, Turned, ByTurns, finishedOf}
+use Rattle.release.specs.Released.{recordsOf, Releases, Released, ReleasedIf, firstTurn, allowedOf, nextTurn, draftAt, Told, Turned, Ends, finishedOf}
 use Rattle.release.specs.declared.Target.{Target}
 use Rattle.release.specs.declared.Turn.{Turn}
 use Rattle.release.proofs.Search.{pair-bare, target-standing}
+use Rattle.release.proofs.Telling.{Proper, tells, tells-none}
 use Rattle.release.proofs.Regular.{bounded, regular-same, count-after, release-regular}
 
 -- ---- RULE D IN TERMS OF THE TARGET
@@ -80,6 +80,11 @@ again-over (suc k) W h = go (lowestTarget W .is) refl h
     go : (t : Bool) → lowestTarget W .is ≡ t → (t && ltb 0 (suc k)) ≡ false → again (suc k) W ≡ W
     go true e h = absurd (true≢false (sym (lt-ltb 0 (suc k) (omega arith)) ∙ h))
     go false e h = again-rests (suc k) W e
+
+again-none : (k : ℕ) (W : Work) → k ≤ 0 → again k W ≡ W
+unfolding again
+again-none zero W h = refl
+again-none (suc k) W h = absurd (omega (arith, h))
 
 again-more : (k : ℕ) (W : Work) → 0 < k → again k W ≡ again (k - 1) (ruleD W)
 unfolding again
@@ -213,88 +218,89 @@ module _ (r : Turn) (m o : List ℕ) (s : List Block) where
               room = omega (arith, R .room, fewer, done .place, ap length held-is, ap length (done .output), length-patch o (r .at) (recordsOf (r .tip) (r .at) t m o s));
             }
 
-        it-turned : Turned r m o s (record { goes = true; view = r .view; tip = t .block; at = at; left = r .left - 1 }) m₁ o₁ s₁
-        it-turned =
+        it-turned : r .goes ≡ true → Proper (t .block) → Turned r m o s (record { goes = true; view = r .view; tip = t .block; at = at; left = r .left - 1 }) m₁ o₁ s₁
+        it-turned goes P =
             let D : ruleD W₀ ≡ W₁ =
             runs W₀ (both .0) ∙ ap (λ (z : View). release (z .0) (lowestTarget W₀ .block) W₀) (sym view-is) ∙ ap (λ (z : Block). release (t .view .0) z W₀) (sym block-is) in
-            record { goes = sym (sym is-allowed ∙ h); fewer = λ _. refl; leaves = leaves ∙ ap (λ (X : Work). leftBy X o) (sym D); ready = λ _. ready-next }
+            record {
+              before = λ _. goes;
+              count = λ _. omega (arith, turns-left);
+              on = λ _. leaves ∙ ap (λ (X : Work). leftBy X o) (sym D);
+              ready = λ _. ready-next;
+              off = λ _ f. absurd (true≢false f);
+              told = λ from old T. rw (done .place, done .output) (tells o (r .at) (ownOf m) (t .view .0) (r .tip) (take (blockCountOf m) s) (t .block) P (down .0) (done .size) (may-release .room) from old T);
+              rest = λ f. absurd (true≢false (sym goes ∙ f));
+            }
 
-    it-rests : t .is ≡ false → Turned r m o s (record { goes = false; view = r .view; tip = r .tip; at = r .at; left = r .left }) m o s
-    it-rests h =
-        record { goes = sym (sym is-allowed ∙ h); fewer = λ f. absurd (false≢true f); leaves = left-same d m o s (omega (arith, R .room)); ready = λ f. absurd (false≢true f) }
-
-    -- as the code takes it
-    pub turned : (at : ℕ) (m₁ o₁ : List ℕ) (s₁ : List Block) (q : Turn) → ReleasedIf (r .tip) (r .at) t m o s at m₁ o₁ s₁ → q ≡ nextTurn r t at → Turned r m o s q m₁ o₁ s₁
-    turned at m₁ o₁ s₁ q done e₁ = go (t .is) refl
-      where
-        go : (i : Bool) → t .is ≡ i → Turned r m o s q m₁ o₁ s₁
-        go true h = rw (e₁, h) (it-turned h at m₁ o₁ s₁ (done .yes h))
-        go false h = let n = done .no h in rw (e₁, h, n .0, n .1 .0, n .1 .1 .0, n .1 .1 .1) (it-rests h)
-
-  -- ---- ALL TURNS
-  module _ (q : Turn) (m₁ o₁ : List ℕ) (s₁ : List Block) (T : Turned r m o s q m₁ o₁ s₁) where
-    more-turns : q .goes ≡ true → 0 < r .left
-    more-turns h = ltb-true 0 (r .left) (and-true (lowestTarget W₀ .is) (ltb 0 (r .left)) (sym (T .goes) ∙ h) .1)
-
-    all-done : q .goes ≡ false → left (draftAt q) m₁ o₁ s₁ ≡ leftBy (again (r .left) W₀) o
-    all-done h = T .leaves ∙ ap (λ (z : Bool). leftBy (cond z (ruleD W₀) W₀) o) h ∙ ap (λ (X : Work). leftBy X o) (sym (again-over (r .left) W₀ (sym (T .goes) ∙ h)))
-
-    -- one turn
-    pub by-one : r .goes ≡ true → ByTurns 1 r m o s q m₁ o₁ s₁
-    unfolding again
-    by-one h =
+    it-rests : t .is ≡ false → r .goes ≡ true → Turned r m o s (record { goes = false; view = r .view; tip = r .tip; at = r .at; left = r .left }) m o s
+    it-rests h goes =
+        let none : again (r .left) W₀ ≡ W₀ = again-over (r .left) W₀ (sym is-allowed ∙ h) in
         record {
-          before = λ _. h;
-          count = λ g. omega (arith, T .fewer g, more-turns g);
-          on = λ g. T .leaves ∙ ap (λ (z : Bool). leftBy (cond z (ruleD W₀) W₀) o) g;
-          ready = T .ready;
-          off = λ _ g. all-done g;
-          rest = λ f. absurd (true≢false (sym h ∙ f));
+          before = λ f. absurd (false≢true f);
+          count = λ f. absurd (false≢true f);
+          on = λ f. absurd (false≢true f);
+          ready = λ f. absurd (false≢true f);
+          off = λ _ _. rw none (left-same d m o s (omega (arith, R .room)));
+          told = λ from old T. T;
+          rest = λ f. absurd (true≢false (sym goes ∙ f));
         }
 
-  pub by-none : (n : ℕ) → r .goes ≡ false → ByTurns n r m o s r m o s
-  by-none n h =
+    -- as the code takes it
+    pub turned : r .goes ≡ true → (at : ℕ) (m₁ o₁ : List ℕ) (s₁ : List Block) (q : Turn) → Proper (t .block) → ReleasedIf (r .tip) (r .at) t m o s at m₁ o₁ s₁ → q ≡ nextTurn r t at → Turned r m o s q m₁ o₁ s₁
+    turned goes at m₁ o₁ s₁ q P done e₁ = go (t .is) refl
+      where
+        go : (i : Bool) → t .is ≡ i → Turned r m o s q m₁ o₁ s₁
+        go true h = rw (e₁, h) (it-turned h at m₁ o₁ s₁ (done .yes h) goes P)
+        go false h = let n = done .no h in rw (e₁, h, n .0, n .1 .0, n .1 .1 .0, n .1 .1 .1) (it-rests h goes)
+
+  -- the last turn released nothing, and this one does nothing
+  pub not-turned : r .goes ≡ false → Turned r m o s r m o s
+  not-turned h =
       record {
         before = λ g. g;
         count = λ g. absurd (true≢false (sym g ∙ h));
         on = λ g. absurd (true≢false (sym g ∙ h));
         ready = λ g. absurd (true≢false (sym g ∙ h));
         off = λ g _. absurd (true≢false (sym g ∙ h));
+        told = λ from old T. T;
         rest = λ _. (refl, (refl, (refl, refl)));
       }
 
-again-add : (a b : ℕ) (W : Work) → again b (again a W) ≡ again (a + b) W
-unfolding again
-again-add zero b W = let e : 0 + b ≡ b = omega arith in rw e refl
-again-add (suc a) b W = let e : suc a + b ≡ suc (a + b) = omega arith in again-add a b (ruleD W) ∙ rw e refl
+-- a turn, and then the others, if it released something
+module _ (r : Turn) (m o : List ℕ) (s : List Block) (q : Turn) (m₁ o₁ : List ℕ) (s₁ : List Block) (A : Turned r m o s q m₁ o₁ s₁) where
+  abbrev W : Work
+  W = workOf (draftAt r) m o s
 
--- turns after turns, in place
-module _ (r : Turn) (m o : List ℕ) (s : List Block) (q : Turn) (m₁ o₁ : List ℕ) (s₁ : List Block) (p : Turn) (m₂ o₂ : List ℕ) (s₂ : List Block) where
-  joined : (a b : ℕ) → left (draftAt q) m₁ o₁ s₁ ≡ leftBy (again a (workOf (draftAt r) m o s)) o → left (draftAt p) m₂ o₂ s₂ ≡ leftBy (again b (workOf (draftAt q) m₁ o₁ s₁)) o₁
-      → left (draftAt p) m₂ o₂ s₂ ≡ leftBy (again (a + b) (workOf (draftAt r) m o s)) o
-  joined a b l rest =
-      let W = workOf (draftAt r) m o s in
-      let W₁ = again a W in
-      rest
-      ∙ ap (λ (X : Work). leftBy (again b X) o₁) (work-same (draftAt q) m₁ o o₁ s₁ W₁ l)
-      ∙ ap (leftBy (again b W₁)) (ap (λ (z : Left). z .output) l)
-      ∙ left-over W₁ (again b W₁) o (again-grows b W₁)
-      ∙ ap (λ (X : Work). leftBy X o) (again-add a b W)
+  module _ (g : q .goes ≡ true) where
+    same : again (q .left) (workOf (draftAt q) m₁ o₁ s₁) ≡ again (r .left) W
+    unfolding again
+    same = ap (again (q .left)) (work-same (draftAt q) m₁ o o₁ s₁ (ruleD W) (A .on g)) ∙ rw (A .count g) refl
 
-  pub by-more : (a b : ℕ) → ByTurns a r m o s q m₁ o₁ s₁ → ByTurns b q m₁ o₁ s₁ p m₂ o₂ s₂ → ByTurns (a + b) r m o s p m₂ o₂ s₂
-  by-more a b A B =
+    grows : length (ruleD W .out) ≤ length (again (r .left) W .out)
+    unfolding again
+    grows = rw (A .count g) (again-grows (q .left) (ruleD W))
+
+    pub ends-on : (to : ℕ) (m₂ o₂ : List ℕ) (s₂ : List Block) → Ends q m₁ o₁ s₁ to m₂ o₂ s₂ → Ends r m o s to m₂ o₂ s₂
+    ends-on to m₂ o₂ s₂ E =
+        record {
+          on =
+              λ _.
+              ap (λ (X : Work). left (record { counters = X .counters; at = to }) m₂ o₂ s₂) (sym same)
+              ∙ E .on g
+              ∙ ap (λ (X : Work). leftBy X o₁) same
+              ∙ ap (leftBy (again (r .left) W)) (ap (λ (z : Left). z .output) (A .on g))
+              ∙ left-over (ruleD W) (again (r .left) W) o grows;
+          told = λ _ from old T. rw (← same) (E .told g from old (A .told from old T));
+          rest = λ f. absurd (true≢false (sym (A .before g) ∙ f));
+        }
+
+  pub ends-off : q .goes ≡ false → Ends r m o s (q .at) m₁ o₁ s₁
+  ends-off g =
       record {
-        before = λ g. A .before (B .before g);
-        count = λ g. omega (arith, A .count (B .before g), B .count g);
-        on = λ g. joined a b (A .on (B .before g)) (B .on g);
-        ready = B .ready;
-        off = λ h g. ended h g (q .goes) refl;
-        rest = λ f. let x = A .rest f in let y = B .rest (ap (λ (z : Turn). z .goes) (x .0) ∙ f) in (y .0 ∙ x .0, (y .1 .0 ∙ x .1 .0, (y .1 .1 .0 ∙ x .1 .1 .0, y .1 .1 .1 ∙ x .1 .1 .1)));
+        on = λ h. let l = A .off h g in ap (λ (c : Counters). left (record { counters = c; at = q .at }) m₁ o₁ s₁) (sym (ap (λ (z : Left). z .counters) l)) ∙ l;
+        told = λ h from old T. let e : q .tip ≡ again (r .left) W .counters .tip = ap (λ (z : Left). z .counters .tip) (A .off h g) in rw (← e) (A .told from old T);
+        rest = A .rest;
       }
-    where
-      ended : r .goes ≡ true → p .goes ≡ false → (i : Bool) → q .goes ≡ i → left (draftAt p) m₂ o₂ s₂ ≡ leftBy (again (r .left) (workOf (draftAt r) m o s)) o
-      ended h g true e = joined a (q .left) (A .on e) (B .off e g) ∙ ap (λ (k : ℕ). leftBy (again k (workOf (draftAt r) m o s)) o) (sym (A .count e))
-      ended h g false e = let y = B .rest e in rw (y .0, y .1 .0, y .1 .1 .0, y .1 .1 .1) (A .off h e)
 
 -- ---- OTHER COUNTERS OF THE SAME VIEW AND TIP
 abbrev with : Counters → Work → Work
@@ -335,33 +341,41 @@ module _ (d : Draft) (m o : List ℕ) (s : List Block) (k : ℕ) (first : Turn) 
       let R = asked (ltb-true 0 k (sym (ap (λ (z : Turn). z .goes) e₀) ∙ goes)) in
       rw e₀ (record { long = R .long; regular = regular-same (workOf d m o []) (workOf d° m o []) refl refl (R .regular); room = R .room })
 
-  -- no turn: nothing was done
-  none-left : (last : Turn) (m₁ o₁ : List ℕ) (s₁ : List Block) → d .at ≤ length o → first .left ≡ 0 → (last ≡ first) × ((m₁ ≡ m) × ((o₁ ≡ o) × (s₁ ≡ s)))
-      → left (draftAt last) m₁ o₁ s₁ ≡ leftBy (again (first .left) (workOf (draftAt first) m o s)) o
-  unfolding again
-  none-left last m₁ o₁ s₁ within z same =
-      let there : draftAt first .at ≤ length o = omega (arith, within, ap (λ (y : Turn). y .at) e₀) in
-      rw (same .0, same .1 .0, same .1 .1 .0, same .1 .1 .1, z) (does-nothing (draftAt first) m o there .leaves s)
+  module _ (within : d .at ≤ length o) (to : ℕ) (m₁ o₁ : List ℕ) (s₁ : List Block) (E₀ : Ends first m o s to m₁ o₁ s₁) where
+    E : Ends (firstTurn d k) m o s to m₁ o₁ s₁
+    E = rw (← e₀) E₀
 
-  pub finishes : (last : Turn) (m₁ o₁ : List ℕ) (s₁ : List Block) (d₁ : Draft) → k ≤ 128 → d .at ≤ length o → ByTurns 128 first m o s last m₁ o₁ s₁ → d₁ ≡ finishedOf d last
-      → left d₁ m₁ o₁ s₁ ≡ leftBy (again k (workOf d m o s)) o
-  unfolding releasing
-  finishes last m₁ o₁ s₁ d₁ few within A e =
-      let c = d .counters in
-      let l° : left (draftAt last) m₁ o₁ s₁ ≡ leftBy (again k (workOf d° m o s)) o = begun (first .goes) refl ∙ ap (λ (z : Turn). leftBy (again (z .left) (workOf (draftAt z) m o s)) o) e₀ in
-      rw e
-      (ap (λ (z : Left). record { counters = releasing c (z .counters .tip); at = z .at; memory = z .memory; output = z .output; store = z .store }) l°
-      ∙ ap (λ (X : Work). leftBy X o) (sym (again-with k c (workOf d° m o s) refl)))
-    where
-      all : first .goes ≡ true → (g : Bool) → last .goes ≡ g → left (draftAt last) m₁ o₁ s₁ ≡ leftBy (again (first .left) (workOf (draftAt first) m o s)) o
-      all b false g = A .off b g
-      all b true g =
-          let n : 128 ≡ first .left = omega (arith, A .count g, ap (λ (z : Turn). z .left) e₀, few) in
-          A .on g ∙ ap (λ (j : ℕ). leftBy (again j (workOf (draftAt first) m o s)) o) n
+    abbrev X : Work
+    X = again k (workOf d° m o s)
 
-      begun : (b : Bool) → first .goes ≡ b → left (draftAt last) m₁ o₁ s₁ ≡ leftBy (again (first .left) (workOf (draftAt first) m o s)) o
-      begun true b = all b (last .goes) refl
-      begun false b =
-          let k0 : k ≤ 0 = ltb-false 0 k (sym (ap (λ (z : Turn). z .goes) e₀) ∙ b) in
-          let l0 : first .left ≡ 0 = omega (arith, k0, ap (λ (z : Turn). z .left) e₀) in
-          none-left last m₁ o₁ s₁ within l0 (A .rest b)
+    -- what is left, and the tip that is told, with turns or without
+    all-left : left (record { counters = X .counters; at = to }) m₁ o₁ s₁ ≡ leftBy X o
+    all-left = go (ltb 0 k) refl
+      where
+        go : (g : Bool) → ltb 0 k ≡ g → left (record { counters = X .counters; at = to }) m₁ o₁ s₁ ≡ leftBy X o
+        go true h = E .on h
+        go false h = let same = E .rest h in let none : X ≡ workOf d° m o s = again-none k (workOf d° m o s) (ltb-false 0 k h) in rw (none, same .0, same .1 .0, same .1 .1 .0, same .1 .1 .1) (left-same d° m o s within)
+
+    tip-told : Told o₁ (d .at) to (d .counters .tip) (X .counters .tip)
+    tip-told = go (ltb 0 k) refl
+      where
+        start : Told o (d .at) (d .at) (d .counters .tip) (d .counters .tip)
+        start = tells-none o (d .at) (d .counters .tip)
+
+        go : (g : Bool) → ltb 0 k ≡ g → Told o₁ (d .at) to (d .counters .tip) (X .counters .tip)
+        go true h = E .told h (d .at) (d .counters .tip) start
+        go false h = let same = E .rest h in let none : X ≡ workOf d° m o s = again-none k (workOf d° m o s) (ltb-false 0 k h) in rw (none, same .0, same .1 .1 .0) start
+
+    pub may-finish : (to ≤ length o₁) × ((d .at < to → d .at + 56 ≤ to) × (d .at + 56 < to → d .at + 112 ≤ to))
+    may-finish =
+        let at-is : to ≡ length (X .out) = ap (λ (z : Left). z .at) all-left in
+        let out-is : length o₁ ≡ length (X .out) + length (drop (length (X .out)) o) = ap (λ (z : Left). length (z .output)) all-left ∙ length-append (X .out) (drop (length (X .out)) o) in
+        (omega (arith, at-is, out-is), (λ h. omega (arith, h, tip-told .place), λ h. omega (arith, h, tip-told .place)))
+
+    pub finishes : (d₁ : Draft) → d₁ ≡ finishedOf o₁ d to → left d₁ m₁ o₁ s₁ ≡ leftBy (again k (workOf d m o s)) o
+    unfolding releasing
+    finishes d₁ e =
+        let c = d .counters in
+        rw (e, tip-told .is)
+        (ap (λ (z : Left). record { counters = releasing c (z .counters .tip); at = z .at; memory = z .memory; output = z .output; store = z .store }) all-left
+        ∙ ap (λ (Y : Work). leftBy Y o) (sym (again-with k c (workOf d° m o s) refl)))

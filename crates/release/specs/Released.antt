@@ -1,12 +1,13 @@
 -- What one release leaves of memory, output region and store, and what one turn of rule D leaves. Assumes nothing.
-use Prim.Native.Nat.{ℕ, _+_, _-_, _*_, _≤_}
+use Prim.Native.Nat.{ℕ, suc, _+_, _-_, _*_, _≤_}
 use mathlib.Core.Path.{_≡_}
 use mathlib.Core.Bool.{true, false, cond, _&&_}
 use mathlib.Core.List.{List}
 use lib.Dec.{ltb}
 use lib.ListN.{length, take}
-use Rattle.codec.specs.Bytes.{patch}
-use Rattle.wire.specs.Fields.{releaseLength}
+use Rattle.codec.specs.Bytes.{part, patch}
+use Rattle.codec.specs.Names.{nameLength}
+use Rattle.wire.specs.Fields.{releaseLength, numberAt}
 use Rattle.blocks.specs.declared.Block.{Block}
 use Rattle.blocks.specs.Store.{descends, ancestry, releases, kept, dropped}
 use Rattle.memory.specs.Layout.{memoryLength, ownOf, blockCountOf, withBlockCount}
@@ -67,22 +68,40 @@ nextTurn r t at =
 abbrev pub draftAt : Turn → Draft
 draftAt r = record { counters = knownBy (r .view) (r .tip); at = r .at }
 
--- ONE TURN: whether it released something, what it leaves, and that this is ready for the next
-pub record Turned (r : Turn) (m o : List ℕ) (s : List Block) (q : Turn) (m′ o′ : List ℕ) (s′ : List Block) : Type 0 where
-  pub goes : q .goes ≡ (lowestTarget (workOf (draftAt r) m o s) .is && ltb 0 (r .left))
-  pub fewer : q .goes ≡ true → q .left ≡ r .left - 1
-  pub leaves : left (draftAt q) m′ o′ s′ ≡ leftBy (cond (q .goes) (ruleD (workOf (draftAt r) m o s)) (workOf (draftAt r) m o s)) o
-  pub ready : q .goes ≡ true → Ready (draftAt q) m′ o′ (releaseLength * length (take (blockCountOf m′) s′))
+-- ---- THE TIP AFTERWARDS, as the written releases tell it
+-- the last release of those that stand from one place to another, as a block: its parent is the release before it, or where there is none, what was the tip
+unfoldable pub lastReleased : List ℕ → ℕ → ℕ → Block → Block
+lastReleased o from to tip =
+    let last = to - releaseLength in
+    let parent = cond (ltb from last) (part o (last - releaseLength + 16) nameLength) (tip .name) in
+    cond (ltb from to) (record { name = part o (last + 16) nameLength; parent = parent; height = record { 0 = numberAt o (last + 48) 8 } }) tip
 
--- n TURNS from r on, unless the last one released nothing: all n released something, or nothing is left to release or no turn is left
-pub record ByTurns (n : ℕ) (r : Turn) (m o : List ℕ) (s : List Block) (q : Turn) (m′ o′ : List ℕ) (s′ : List Block) : Type 0 where
+-- so many releases stand there, and the last one is the tip
+pub record Told (o : List ℕ) (from to : ℕ) (old tip : Block) : Type 0 where
+  pub count : ℕ
+  pub place : to ≡ from + releaseLength * count
+  pub is : lastReleased o from to old ≡ tip
+
+-- ONE TURN from r on, unless the last one released nothing: it released something, and this is ready for the next; or nothing is left to release or no turn is left
+pub record Turned (r : Turn) (m o : List ℕ) (s : List Block) (q : Turn) (m′ o′ : List ℕ) (s′ : List Block) : Type 0 where
   pub before : q .goes ≡ true → r .goes ≡ true
-  pub count : q .goes ≡ true → r .left ≡ n + q .left
-  pub on : q .goes ≡ true → left (draftAt q) m′ o′ s′ ≡ leftBy (again n (workOf (draftAt r) m o s)) o
+  pub count : q .goes ≡ true → r .left ≡ suc (q .left)
+  pub on : q .goes ≡ true → left (draftAt q) m′ o′ s′ ≡ leftBy (ruleD (workOf (draftAt r) m o s)) o
   pub ready : q .goes ≡ true → Ready (draftAt q) m′ o′ (releaseLength * length (take (blockCountOf m′) s′))
   pub off : r .goes ≡ true → q .goes ≡ false → left (draftAt q) m′ o′ s′ ≡ leftBy (again (r .left) (workOf (draftAt r) m o s)) o
-  pub rest : r .goes ≡ false → (q ≡ r) × ((m′ ≡ m) × ((o′ ≡ o) × (s′ ≡ s)))
+  pub told : (from : ℕ) (old : Block) → Told o from (r .at) old (r .tip) → Told o′ from (q .at) old (q .tip)
+  pub rest : r .goes ≡ false → (q .at ≡ r .at) × ((m′ ≡ m) × ((o′ ≡ o) × (s′ ≡ s)))
 
--- after the last turn, of the counters with which it began
-abbrev pub finishedOf : Draft → Turn → Draft
-finishedOf d r = record { counters = releasing (d .counters) (r .tip); at = r .at }
+-- ALL TURNS from r on, and what they leave; the tip stands in what they wrote
+pub record Ends (r : Turn) (m o : List ℕ) (s : List Block) (to : ℕ) (m′ o′ : List ℕ) (s′ : List Block) : Type 0 where
+  pub on : r .goes ≡ true → left (record { counters = again (r .left) (workOf (draftAt r) m o s) .counters; at = to }) m′ o′ s′ ≡ leftBy (again (r .left) (workOf (draftAt r) m o s)) o
+  pub told : r .goes ≡ true → (from : ℕ) (old : Block) → Told o from (r .at) old (r .tip) → Told o′ from to old (again (r .left) (workOf (draftAt r) m o s) .counters .tip)
+  pub rest : r .goes ≡ false → (to ≡ r .at) × ((m′ ≡ m) × ((o′ ≡ o) × (s′ ≡ s)))
+
+-- so many turns are left at most: it falls with each
+abbrev pub turnsLeft : Turn → ℕ
+turnsLeft r = r .left
+
+-- after the last turn, of the draft with which it began: so many bytes are written, and they tell the tip
+abbrev pub finishedOf : List ℕ → Draft → ℕ → Draft
+finishedOf o d to = record { counters = releasing (d .counters) (lastReleased o (d .at) to (d .counters .tip)); at = to }

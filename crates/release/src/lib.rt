@@ -5,6 +5,8 @@
 use act::Draft;
 use blocks::Block;
 use blocks::Found;
+use codec::name_at;
+use codec::num::u64_at;
 use counters::releasing;
 use memory::block_count;
 use memory::decided::Choice;
@@ -27,7 +29,7 @@ ghost use Rattle.memory.specs.Layout.{memoryLength, settingsOf, blockCountOf, w
 ghost use Rattle.protocol.specs.Refusals.{storeLength, regular};
 ghost use Rattle.protocol.specs.Rules.{again};
 ghost use Rattle.act.specs.Draft.{workOf, left, leftBy, Ready};
-ghost use Rattle.release.specs.Released.{Releases, Released, ReleasedIf, firstTurn, allowedOf, nextTurn, draftAt, ByTurns, finishedOf};
+ghost use Rattle.release.specs.Released.{Releases, Released, ReleasedIf, firstTurn, allowedOf, nextTurn, draftAt, Turned, Ends, lastReleased, finishedOf};
 ghost use Rattle.release.specs.Search.{standing, knownBy, seen, noTarget, firstPlace, lookOf, nextView, nextName, stepOf, targetFrom, lowestTarget};
 
 // Where the search stands: at a view, above a name or at its first; how many views come after it, and how many of its names are still tried.
@@ -370,9 +372,9 @@ fn at_of(r: Turn) -> usize
 }
 
 // Rule D once, if something is left to release and turns are left; after a turn that released nothing, nothing is looked for.
-fn turns_1(mem: &mut [u8], store: &mut [Block], out: &mut [u8], r: Turn) -> Turn
+fn one_turn(mem: &mut [u8], store: &mut [Block], out: &mut [u8], r: Turn) -> Turn
     requires { ⌜ (r .goes ≡ true → Ready (draftAt r) (now mem) (now out) (releaseLength * length (take (blockCountOf (now mem)) (now store)))) ⌝ }
-    ensures { λ q. ⌜ ByTurns 1 r (now (mem .entry)) (now (out .entry)) (now (store .entry)) q (now (mem .exit)) (now (out .exit)) (now (store .exit)) ⌝ }
+    ensures { λ q. ⌜ Turned r (now (mem .entry)) (now (out .entry)) (now (store .entry)) q (now (mem .exit)) (now (out .exit)) (now (store .exit)) ⌝ }
 {
     let go = goes_of(r);
     let v = view_of(r);
@@ -384,72 +386,56 @@ fn turns_1(mem: &mut [u8], store: &mut [Block], out: &mut [u8], r: Turn) -> Turn
     next_turn(r, t, to)
 }
 
-// Turns after turns, twice as many each time: a function that called itself, with an `if` over three lent regions and a struct as its result, was over
-// the step limit of the check; and so calls nest no deeper than this. After a turn that released nothing the others do nothing.
-fn turns_2(mem: &mut [u8], store: &mut [Block], out: &mut [u8], r: Turn) -> Turn
+// Rule D until a turn releases nothing or none is left: the place behind what is written. Its result is a number, since an `if` over three lent regions with
+// a struct as result is over the step limit of the check; the tip is read off what was written.
+fn turns(mem: &mut [u8], store: &mut [Block], out: &mut [u8], r: Turn) -> usize
     requires { ⌜ (r .goes ≡ true → Ready (draftAt r) (now mem) (now out) (releaseLength * length (take (blockCountOf (now mem)) (now store)))) ⌝ }
-    ensures { λ q. ⌜ ByTurns 2 r (now (mem .entry)) (now (out .entry)) (now (store .entry)) q (now (mem .exit)) (now (out .exit)) (now (store .exit)) ⌝ }
+    ensures { λ to. ⌜ Ends r (now (mem .entry)) (now (out .entry)) (now (store .entry)) to (now (mem .exit)) (now (out .exit)) (now (store .exit)) ⌝ }
 {
-    let q = turns_1(mem, store, out, r);
-    turns_1(mem, store, out, q)
+    let q = one_turn(mem, store, out, r);
+    if q.goes {
+        turns(mem, store, out, q)
+    } else {
+        q.at
+    }
 }
 
-fn turns_4(mem: &mut [u8], store: &mut [Block], out: &mut [u8], r: Turn) -> Turn
-    requires { ⌜ (r .goes ≡ true → Ready (draftAt r) (now mem) (now out) (releaseLength * length (take (blockCountOf (now mem)) (now store)))) ⌝ }
-    ensures { λ q. ⌜ ByTurns 4 r (now (mem .entry)) (now (out .entry)) (now (store .entry)) q (now (mem .exit)) (now (out .exit)) (now (store .exit)) ⌝ }
+// The tip that the releases from one place to another leave: the last of them. Its parent is the one before it, or the tip before them.
+fn last_released(out: &[u8], from: usize, to: usize, tip: Block) -> Block
+    requires { ⌜ (to ≤ length (now out)) × ((from < to → from + 56 ≤ to) × (from + 56 < to → from + 112 ≤ to)) ⌝ }
+    ensures { λ r. ⌜ r ≡ lastReleased (now (out .entry)) from to tip ⌝ }
 {
-    let q = turns_2(mem, store, out, r);
-    turns_2(mem, store, out, q)
-}
-
-fn turns_8(mem: &mut [u8], store: &mut [Block], out: &mut [u8], r: Turn) -> Turn
-    requires { ⌜ (r .goes ≡ true → Ready (draftAt r) (now mem) (now out) (releaseLength * length (take (blockCountOf (now mem)) (now store)))) ⌝ }
-    ensures { λ q. ⌜ ByTurns 8 r (now (mem .entry)) (now (out .entry)) (now (store .entry)) q (now (mem .exit)) (now (out .exit)) (now (store .exit)) ⌝ }
-{
-    let q = turns_4(mem, store, out, r);
-    turns_4(mem, store, out, q)
-}
-
-fn turns_16(mem: &mut [u8], store: &mut [Block], out: &mut [u8], r: Turn) -> Turn
-    requires { ⌜ (r .goes ≡ true → Ready (draftAt r) (now mem) (now out) (releaseLength * length (take (blockCountOf (now mem)) (now store)))) ⌝ }
-    ensures { λ q. ⌜ ByTurns 16 r (now (mem .entry)) (now (out .entry)) (now (store .entry)) q (now (mem .exit)) (now (out .exit)) (now (store .exit)) ⌝ }
-{
-    let q = turns_8(mem, store, out, r);
-    turns_8(mem, store, out, q)
-}
-
-fn turns_32(mem: &mut [u8], store: &mut [Block], out: &mut [u8], r: Turn) -> Turn
-    requires { ⌜ (r .goes ≡ true → Ready (draftAt r) (now mem) (now out) (releaseLength * length (take (blockCountOf (now mem)) (now store)))) ⌝ }
-    ensures { λ q. ⌜ ByTurns 32 r (now (mem .entry)) (now (out .entry)) (now (store .entry)) q (now (mem .exit)) (now (out .exit)) (now (store .exit)) ⌝ }
-{
-    let q = turns_16(mem, store, out, r);
-    turns_16(mem, store, out, q)
-}
-
-fn turns_64(mem: &mut [u8], store: &mut [Block], out: &mut [u8], r: Turn) -> Turn
-    requires { ⌜ (r .goes ≡ true → Ready (draftAt r) (now mem) (now out) (releaseLength * length (take (blockCountOf (now mem)) (now store)))) ⌝ }
-    ensures { λ q. ⌜ ByTurns 64 r (now (mem .entry)) (now (out .entry)) (now (store .entry)) q (now (mem .exit)) (now (out .exit)) (now (store .exit)) ⌝ }
-{
-    let q = turns_32(mem, store, out, r);
-    turns_32(mem, store, out, q)
-}
-
-fn turns_128(mem: &mut [u8], store: &mut [Block], out: &mut [u8], r: Turn) -> Turn
-    requires { ⌜ (r .goes ≡ true → Ready (draftAt r) (now mem) (now out) (releaseLength * length (take (blockCountOf (now mem)) (now store)))) ⌝ }
-    ensures { λ q. ⌜ ByTurns 128 r (now (mem .entry)) (now (out .entry)) (now (store .entry)) q (now (mem .exit)) (now (out .exit)) (now (store .exit)) ⌝ }
-{
-    let q = turns_64(mem, store, out, r);
-    turns_64(mem, store, out, q)
+    if to <= from {
+        return tip;
+    }
+    let last = to - 56;
+    let name = name_at(out, last + 16);
+    let height = Height(u64_at(out, last + 48));
+    if from < last {
+        let parent = name_at(out, last - 56 + 16);
+        return Block {
+            name,
+            parent,
+            height,
+        };
+    }
+    let parent = tip.name;
+    Block {
+        name,
+        parent,
+        height,
+    }
 }
 
 // The draft after the last turn.
-fn finished(d: Draft, r: Turn) -> Draft
-    ensures { λ s. ⌜ s ≡ finishedOf d r ⌝ }
+fn finished(out: &[u8], d: Draft, to: usize) -> Draft
+    requires { ⌜ (to ≤ length (now out)) × ((d .at < to → d .at + 56 ≤ to) × (d .at + 56 < to → d .at + 112 ≤ to)) ⌝ }
+    ensures { λ r. ⌜ r ≡ finishedOf (now (out .entry)) d to ⌝ }
 {
     let c = d.counters;
-    let tip = r.tip;
+    let tip = last_released(out, d.at, to, c.tip);
     let counters = releasing(c, tip);
-    Draft { counters, at: r.at }
+    Draft { counters, at: to }
 }
 
 // Rule D, again and again. Each release takes a block out of the store, so that for k the number of held blocks is enough; a refused call has none,
@@ -460,6 +446,6 @@ pub fn release_all(mem: &mut [u8], store: &mut [Block], out: &mut [u8], d: Draft
         ≡ leftBy (again k (workOf d (now (mem .entry)) (now (out .entry)) (now (store .entry)))) (now (out .entry)) ⌝ }
 {
     let first = first_turn(d, k);
-    let last = turns_128(mem, store, out, first);
-    finished(d, last)
+    let to = turns(mem, store, out, first);
+    finished(out, d, to)
 }

@@ -1,4 +1,4 @@
--- `release::turns_1` meets its contract: a walk of its MIR. tools/walk.py wrote it from turns_1.py.
+-- `release::one_turn` meets its contract: a walk of its MIR. tools/walk.py wrote it from one_turn.py.
 -- Assumes nothing.
 use Rattle.walks.proofs.Walk.{_≡_, refl, ℕ, _*_, [], _∷_, List, length, URA, fullShare, named, Val, SProp, ent, id⊢, GName, Lft, Share, ftrue, flft, Memory, Routine, Heap, Calls, Loops, WpFn, Tables, Atoms, Fun, givenOf, tables, tablesOf, Given, ‵, _⊛_, _$_, _∵_, !, qed, move, drop, split, fsplit, keep, look, init, stop, hop, fld, from, load, addr, and-then, no-more, assigns, returns, enter, alloc1, alloc0, params1, pass1, pass0, agg, whole, sub, look-in, FmC, fmOf, WpFn-mono, owns}
 use Rattle.walks.proofs.Walk.{Is, mem, u8, sliceVal, MutSlice, Room, slice-vals, mut-slice-tells, plain, onEntry, Meets, tripleOf, Contract, Triple, calls-at, entered, cited, needs, Stays, stay-dropped, walkOf, AllGo, goes-dropped, Walks, walked, walk-meets, stay-slice, goes-slice, yes, true, false}
@@ -11,12 +11,14 @@ use Rattle.wire.specs.Fields.{releaseLength}
 use Rattle.memory.specs.Layout.{blockCountOf}
 use Rattle.act.specs.Draft.{Ready}
 use Rattle.release.specs.Search.{standing, knownBy, noTarget, lowestTarget}
-use Rattle.release.specs.Released.{ReleasedIf, allowedOf, nextTurn, draftAt, ByTurns}
+use Rattle.release.specs.Released.{ReleasedIf, allowedOf, nextTurn, draftAt, Turned}
+use Rattle.release.proofs.Types.{Target-block}
+use Rattle.release.proofs.Telling.{proper}
 use Rattle.release.proofs.Turning.{search-asks, if-asks, turn-asks, turn-is}
 use Rattle.blocks.specs.declared.Block.{Block}
 use Rattle.release.specs.declared.Turn.{Turn}
 use Rattle.blocks.proofs.Types.{Blockᴿ, Blockᴰ}
-use Rattle.release.proofs.Types.{Turnᴿ, Turnᴰ, Targetᴰ}
+use Rattle.release.proofs.Types.{Turnᴿ, Turnᴰ, Targetᴰ, Target-block}
 use Rattle.blocks.proofs.Types.{Viewᴰ}
 use Rattle.release.proofs.goes_of as goes-of
 use Rattle.release.proofs.goes_of.Symbol as goes-of-def
@@ -42,10 +44,10 @@ use Rattle.release.proofs.release_if.Met as release-if-thm
 use Rattle.release.proofs.next_turn as next-turn
 use Rattle.release.proofs.next_turn.Symbol as next-turn-def
 use Rattle.release.proofs.next_turn.Met as next-turn-thm
-use Rattle.release.proofs.turns_1.Key.{name as #f}
-use Rattle.release.proofs.turns_1 as f
-use Rattle.release.proofs.turns_1.Statement as stated
-use Rattle.release.proofs.turns_1.Code as code
+use Rattle.release.proofs.one_turn.Key.{name as #f}
+use Rattle.release.proofs.one_turn as f
+use Rattle.release.proofs.one_turn.Statement as stated
+use Rattle.release.proofs.one_turn.Code as code
 
 abbrev stayed : Stays (f.ended .signature .params) (f.ended .kept)
 stayed = (stay-slice (0 ∷ []) tt (plain (λ _. u8)), (stay-slice (1 ∷ []) tt (plain (λ _. Blockᴿ)), (stay-slice (2 ∷ []) tt (plain (λ _. u8)), (stay-dropped (plain (λ _. Turnᴿ)) yes, tt))))
@@ -129,7 +131,7 @@ module _ {M : Type 1} (𝓤 : URA M) (H : Heap 𝓤) (A : Atoms 𝓤) (W : Given
       -- call 7: `release::next_turn`
       let y7 : next-turnᶜ 𝓤 H A mem run .Ghost = ((tt, tt, tt, (p, (r5, (r6, tt))), ((Turnᴰ .val p) ∷ [], ((Targetᴰ .val r5) ∷ [], ((word .val r6) ∷ [], tt)))), tt) in asks ! next-turn.ended (next-turn.clauses 𝓤 H A mem run) y7 0 (of W Turnᴰ p p-is (of W Targetᴰ r5 is5 (of W word r6 is6 end))) refl (so 𝓤 (turn-asks p m out ys asked r0 r1 r2 r3 e0 e1 e2 e3 r4 r5 e4 e5)) $ calls-at ! fm (next-turnᶜ 𝓤 H A mem run) (known .1 .1 .1 .1 .1 .1 .1) y7 (and-then ! (load ! (from ! (stop !)) (look ! 41 refl)) (and-then ! (load ! (from ! (stop !)) (look ! 29 refl)) (and-then ! (load ! (from ! (stop !)) (look ! 27 refl)) (no-more !)))) (λ w7. came ! next-turn.ended (next-turn.clauses 𝓤 H A mem run) y7 w7 Turnᴰ 48 refl refl ([]) (λ r ws. r ≡ nextTurn p r5 r6) (λ r ws. id⊢ 𝓤 _) (λ r7 ws7 is7 e7.
       -- the exit
-      returns ! (look ! 48 refl) $ leave ! 6 (full _ ∷ full _ ∷ full _ ∷ full _ ∷ full _ ∷ full _ ∷ full _ ∷ full _ ∷ full _ ∷ full _ ∷ full _ ∷ full _ ∷ full _ ∷ full _ ∷ full _ ∷ full _ ∷ full _ ∷ full _ ∷ full _ ∷ full _ ∷ full _ ∷ full _ ∷ []) refl $ keep ! (5 ∷ 3 ∷ 1 ∷ 4 ∷ 2 ∷ 0 ∷ []) $ ends W f.ended stayed (f.clauses 𝓤 H A mem run) y (Turnᴰ .val r7) r7 ((ws6 .0), ((ws6 .1 .0), ((ws6 .1 .1 .0), (tt, tt)))) (l6-0, (l6-1, (l6-2, (tt, tt)))) (Turnᴰ .makes 𝓤 H A W r7 _ is7) (so 𝓤 (turn-is p m out ys asked r0 r1 r2 r3 e0 e1 e2 e3 r4 r5 e4 e5 r6 _ _ _ r7 e6 e7)) (held (held (held (made (id⊢ 𝓤 _) end))))))))))))))))))))))))))))))))))))))))))))))))))
+      returns ! (look ! 48 refl) $ leave ! 6 (full _ ∷ full _ ∷ full _ ∷ full _ ∷ full _ ∷ full _ ∷ full _ ∷ full _ ∷ full _ ∷ full _ ∷ full _ ∷ full _ ∷ full _ ∷ full _ ∷ full _ ∷ full _ ∷ full _ ∷ full _ ∷ full _ ∷ full _ ∷ full _ ∷ full _ ∷ []) refl $ keep ! (5 ∷ 3 ∷ 1 ∷ 4 ∷ 2 ∷ 0 ∷ []) $ ends W f.ended stayed (f.clauses 𝓤 H A mem run) y (Turnᴰ .val r7) r7 ((ws6 .0), ((ws6 .1 .0), ((ws6 .1 .1 .0), (tt, tt)))) (l6-0, (l6-1, (l6-2, (tt, tt)))) (Turnᴰ .makes 𝓤 H A W r7 _ is7) (so 𝓤 (turn-is p m out ys asked r0 r1 r2 r3 e0 e1 e2 e3 r4 r5 e4 e5 r6 _ _ _ r7 (proper (r5 .block) (Target-block r5 is5)) e6 e7)) (held (held (held (made (id⊢ 𝓤 _) end))))))))))))))))))))))))))))))))))))))))))))))))))
 
 module _ {M : Type 1} (𝓤 : URA M) (H : Heap 𝓤) (A : Atoms 𝓤) (W : Given 𝓤 H A) (mem : Memory → SProp 𝓤) (run : Routine → Fun 𝓤) where
   goes : AllGo 𝓤 H A W 3 (f.signature .params) (f.ended .kept) stayed
@@ -142,9 +144,9 @@ module _ {M : Type 1} (𝓤 : URA M) (H : Heap 𝓤) (A : Atoms 𝓤) (W : Given
   meets : (𝓣 : Tables 𝓤 H) → Known 𝓤 H A mem run (𝓣 .C) → Meets 𝓤 H A f.signature (WpFn 𝓤 H (𝓣 .C) (𝓣 .Λ) code.function) (f.spec 𝓤 H A mem run)
   meets 𝓣 known = walk-meets 𝓤 H A f.ended stayed W goes (f.clauses 𝓤 H A mem run) (WpFn 𝓤 H (𝓣 .C) (𝓣 .Λ) code.function) (WpFn-mono 𝓤 H (W .laws) 𝓣 code.function) (walks 𝓣 known)
 
-pub turns-1-spec : {M : Type 1} → stated.statement M
+pub one-turn-spec : {M : Type 1} → stated.statement M
 unfolding code.routine tablesOf
-turns-1-spec 𝓤 H 𝓜 𝓖 𝓡 =
+one-turn-spec 𝓤 H 𝓜 𝓖 𝓡 =
     entered 𝓤 H (tripleOf 𝓤 H (𝓖 .A) f.signature (f.spec 𝓤 H (𝓖 .A) (𝓜 .mem) (𝓡 .run)))
     (tables 𝓤 H 𝓜 𝓡 code.env .C) (tables 𝓤 H 𝓜 𝓡 code.env .Λ) #f code.function (code.unfolded 𝓤 H 𝓜 𝓡)
     (meets 𝓤 H (𝓖 .A) (givenOf 𝓤 H 𝓜 𝓖) (𝓜 .mem) (𝓡 .run) (tablesOf 𝓤 H 𝓜 (tables 𝓤 H 𝓜 𝓡 code.env))

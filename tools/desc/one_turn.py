@@ -1,5 +1,5 @@
 {
-    'fn': 'release::turns_1',
+    'fn': 'release::one_turn',
     'kit': 'walks',
     'types': {'settings': 'blocks'},
     'params': ['m', 'ys', 'out', 'p'],
@@ -19,7 +19,7 @@
         '(if-asks p m out ys asked r0 r1 r2 r3 e0 e1 e2 e3 r4 r5 e4 e5)',
         '(turn-asks p m out ys asked r0 r1 r2 r3 e0 e1 e2 e3 r4 r5 e4 e5)',
     ],
-    'says': ['(turn-is p m out ys asked r0 r1 r2 r3 e0 e1 e2 e3 r4 r5 e4 e5 r6 _ _ _ r7 e6 e7)'],
+    'says': ['(turn-is p m out ys asked r0 r1 r2 r3 e0 e1 e2 e3 r4 r5 e4 e5 r6 _ _ _ r7 (proper (r5 .block) (Target-block r5 is5)) e6 e7)'],
     'spec': {
         'mathlib.Core.Bool': ['cond'],
         'lib.ListN': ['take'],
@@ -27,7 +27,9 @@
         'Rattle.memory.specs.Layout': ['blockCountOf'],
         'Rattle.act.specs.Draft': ['Ready'],
         'Rattle.release.specs.Search': ['standing', 'knownBy', 'noTarget', 'lowestTarget'],
-        'Rattle.release.specs.Released': ['ReleasedIf', 'allowedOf', 'nextTurn', 'draftAt', 'ByTurns'],
+        'Rattle.release.specs.Released': ['ReleasedIf', 'allowedOf', 'nextTurn', 'draftAt', 'Turned'],
+        'Rattle.release.proofs.Types': ['Target-block'],
+        'Rattle.release.proofs.Telling': ['proper'],
         'Rattle.release.proofs.Turning': ['search-asks', 'if-asks', 'turn-asks', 'turn-is'],
     },
 }
