@@ -74,7 +74,7 @@ fn open(input: &[u8], faults: Faults) -> Option<(Replica, &[u8])> {
 }
 
 /// The five numbers of a well-formed kind 12.
-pub(crate) fn opening(record: &[u8]) -> Option<[u16; 5]> {
+pub fn opening(record: &[u8]) -> Option<[u16; 5]> {
     let well_formed = record.len() == wire::OPENING
         && wire::kind_of(record) == kind::OPENING
         && wire::sender_of(record) == 0
@@ -83,7 +83,7 @@ pub(crate) fn opening(record: &[u8]) -> Option<[u16; 5]> {
 }
 
 /// The next record by its length field and what follows; none if it is cut short, under 8 or over 3,696 bytes.
-pub(crate) fn cut(input: &[u8]) -> Option<(&[u8], &[u8])> {
+pub fn cut(input: &[u8]) -> Option<(&[u8], &[u8])> {
     if input.len() < wire::HEADER {
         return None;
     }
@@ -104,7 +104,7 @@ pub fn step(replica: &mut Replica, record: &[u8], out: &mut Vec<u8>) -> Reply {
 }
 
 /// What the program itself refuses, before any call.
-pub(crate) fn judge_framing(record: &[u8]) -> Result<(), Refusal> {
+pub fn judge_framing(record: &[u8]) -> Result<(), Refusal> {
     let Some((record, [])) = cut(record) else {
         return Err(Refusal::Length);
     };

@@ -137,3 +137,16 @@ fn faults_are_options() {
     assert_eq!(last(run(&[], &input)), "6 0 4 0 0");
     assert_eq!(last(run(&["--p-from-c-k-2"], &input)), "6 0 4 0 1");
 }
+
+/// Every `NAME.bin` of the folder of stored runs has a `NAME.txt` with the lines to print.
+#[test]
+fn stored_runs() {
+    let folder = std::path::Path::new(env!("CARGO_MANIFEST_DIR")).join("../runs");
+    let files = std::fs::read_dir(folder).unwrap().map(|entry| entry.unwrap().path());
+    let inputs: Vec<_> = files.filter(|path| path.extension().is_some_and(|end| end == "bin")).collect();
+    assert!(inputs.len() >= 12, "{} stored runs", inputs.len());
+    for path in inputs {
+        let expected = std::fs::read_to_string(path.with_extension("txt")).unwrap();
+        assert_eq!(run(&[], &std::fs::read(&path).unwrap()), expected, "{}", path.display());
+    }
+}

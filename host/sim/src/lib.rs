@@ -14,6 +14,7 @@ mod random;
 mod rounds;
 pub mod scenarios;
 mod script;
+pub mod words;
 
 pub use crate::core::Core;
 pub use chain::{Rows, Violation};

@@ -114,23 +114,32 @@ fn p_from_c_k_2<K: Core>(s: &mut Script<K>) {
 /// others give B as their vote of the same view. Ranked rightly the block certificate wins and 2 builds on A. Ranked
 /// wrongly the three votes win: 2 builds on B, and a second chain follows.
 fn weak_over_block<K: Core>(s: &mut Script<K>) {
+    s.step(); // two blocks are shown
     show(s, A, &[1, 2, 3]);
     show(s, B, &[4, 5]);
+    s.step(); // enough votes for A
     s.lie(&vote(0, 1, A), &[1, 2, 3]);
     s.votes(&[1, 2, 3], 1, &[1, 2, 3]);
+    s.step(); // one replica releases A
     s.commits(&[1, 2], 1, &[3]);
     s.lie(&commit(0, 1, A), &[3]);
 
+    s.step(); // the others time out
     let lie = timeout_record(&timeout(0, 2, high_vote(1, B)));
     s.timers(&[2]);
     s.timeouts(&[2], 2, &[4, 5]);
     s.lie(&lie, &[4, 5]);
+    s.step(); // four timeouts in the next leader's hand
     s.timeouts(&[4, 5], 2, &[2]);
     s.lie(&lie, &[2]);
 
+    s.step(); // it builds
     give(s, A, &[4, 5]);
     give(s, B, &[1, 2]);
-    lead(s, 2, 3, C, &[1, 4, 5]);
+    s.propose(2, C);
+    s.proposal(2, 3, &[1, 4, 5]);
+    s.step(); // it is decided
+    decide(s, 3, 2, &[1, 4, 5]);
 }
 
 /// High votes left out, only carried certificates compared.

@@ -3,15 +3,20 @@
 use std::rc::Rc;
 
 use oracle::wire::{self, kind, Record};
-use oracle::{Block, Certificate, CertificateKind, Height, Name, Protocol, Timeout, View, Vote, GENESIS};
+use oracle::{Block, Certificate, Height, Name, Protocol, Timeout, View, Vote};
 
 use crate::cluster::{Cluster, Outcome};
 use crate::core::Core;
+use crate::words;
 
 pub struct Script<C: Core> {
     pub cluster: Cluster<C>,
     /// All that honest replicas sent, with the sender, in order.
     sent: Vec<(usize, Rc<[u8]>)>,
+    /// All calls, as the run program reads them: the replica and the record, openings left out.
+    calls: Vec<(usize, Vec<u8>)>,
+    /// The call with which each step begins.
+    steps: Vec<usize>,
     /// What happened, in words.
     trace: Vec<String>,
     /// How many releases of each replica stand in the trace.
@@ -23,7 +28,20 @@ impl<C: Core> Script<C> {
         let byzantine = byzantine.iter().fold(0, |set, replica| set | 1 << replica);
         let cluster: Cluster<C> = Cluster::open(options, protocol, byzantine);
         let told = vec![0; cluster.n()];
-        Script { cluster, sent: Vec::new(), trace: Vec::new(), told }
+        Script { cluster, sent: Vec::new(), calls: Vec::new(), steps: Vec::new(), trace: Vec::new(), told }
+    }
+
+    /// A new step of the story begins with the next call.
+    pub fn step(&mut self) {
+        self.steps.push(self.calls.len());
+    }
+
+    pub fn steps(&self) -> &[usize] {
+        &self.steps
+    }
+
+    pub fn calls(&self) -> &[(usize, Vec<u8>)] {
+        &self.calls
     }
 
     pub fn trace(&self) -> &[String] {
@@ -38,7 +56,10 @@ impl<C: Core> Script<C> {
 
     pub fn propose(&mut self, leader: usize, name: Name) -> Outcome {
         let outcome = self.cluster.propose(leader, name);
-        self.note(leader, format!("propose {}", letter(&name)), outcome);
+        let mut record = Vec::new();
+        wire::write_propose(&mut record, name);
+        self.calls.push((leader, record));
+        self.note(leader, format!("propose {}", words::name(&name)), outcome);
         outcome
     }
 
@@ -47,6 +68,9 @@ impl<C: Core> Script<C> {
         for &replica in replicas {
             let view = self.cluster.view(replica);
             let outcome = self.cluster.timer(replica, view);
+            let mut record = Vec::new();
+            wire::write_timer(&mut record, View(view));
+            self.calls.push((replica, record));
             self.note(replica, format!("timer of view {view}"), outcome);
         }
     }
@@ -54,7 +78,8 @@ impl<C: Core> Script<C> {
     fn hand_in(&mut self, to: usize, record: &[u8]) -> Outcome {
         let outcome = self.cluster.record(to, record);
         assert_ne!(outcome, Outcome::Barred, "a script keeps to the premises");
-        self.note(to, describe(record, self.cluster.protocol()), outcome);
+        self.calls.push((to, record.to_vec()));
+        self.note(to, words::describe(record, self.cluster.protocol()), outcome);
         outcome
     }
 
@@ -73,16 +98,16 @@ impl<C: Core> Script<C> {
     fn describe_accepted(&mut self, replica: usize) -> String {
         let protocol = self.cluster.protocol();
         let mut words = vec!["accepted".to_string()];
-        words.extend(self.cluster.sent.iter().map(|record| format!("sends {}", describe(record, protocol))));
+        words.extend(self.cluster.sent.iter().map(|record| format!("sends {}", words::describe(record, protocol))));
         let row = self.cluster.rows().row(replica);
-        words.extend(row[self.told[replica]..].iter().map(|name| format!("RELEASES {}", letter(name))));
+        words.extend(row[self.told[replica]..].iter().map(|name| format!("RELEASES {}", words::name(name))));
         self.told[replica] = row.len();
         words.join("; ")
     }
 
     /// A replica's row of releases, each block by its letter.
     pub fn row(&self, replica: usize) -> String {
-        self.cluster.rows().row(replica).iter().map(letter).collect()
+        self.cluster.rows().row(replica).iter().map(words::name).collect()
     }
 
     // ------------------------------------------------------------ what honest replicas made
@@ -249,71 +274,4 @@ pub fn genesis_certificate() -> Vec<u8> {
     let mut record = Vec::new();
     wire::write_block_certificate(&mut record, 0, &Certificate::GENESIS);
     record
-}
-
-// ---------------------------------------------------------------- words
-
-/// A record in words; of a timeout certificate the safe block as these replicas choose it.
-fn describe(record: &[u8], protocol: &Protocol) -> String {
-    let read = match wire::read(record, protocol.settings.n()) {
-        Ok(read) => read,
-        Err(refusal) => return format!("{} bytes ({refusal:?})", record.len()),
-    };
-    match read {
-        Record::Vote { sender, vote } => format!("vote of {sender} for {}", pair(vote)),
-        Record::Commit { sender, vote } => format!("commit of {sender} for {}", pair(vote)),
-        Record::BlockCertificate { certificate, .. } => certificate_words(&certificate),
-        Record::Timeout { timeout, .. } => timeout_words(&timeout),
-        Record::TimeoutCertificate { certificate, .. } => {
-            let senders = join(certificate.timeouts.senders());
-            let safe = certificate_words(&protocol.safe_certificate(certificate.timeouts));
-            format!("timeout certificate of view {} by {senders} (safe: {safe})", certificate.view.0)
-        }
-        Record::Proposal(proposal) => {
-            let block = block_words(&proposal.block);
-            format!("proposal of {} in view {}: {block}", proposal.sender, proposal.view.0)
-        }
-        Record::Block { block, .. } => format!("block {}", block_words(&block)),
-    }
-}
-
-fn join(numbers: impl Iterator<Item = impl ToString>) -> String {
-    numbers.map(|number| number.to_string()).collect::<Vec<_>>().join(" ")
-}
-
-fn block_words(block: &Block) -> String {
-    format!("{} on {} at height {}", letter(&block.name), letter(&block.parent), block.height.0)
-}
-
-fn pair(vote: Vote) -> String {
-    if vote == Vote::NONE {
-        "nothing".to_string()
-    } else {
-        format!("{} in view {}", letter(&vote.name), vote.view.0)
-    }
-}
-
-fn certificate_words(certificate: &Certificate) -> String {
-    let kind = match certificate.kind {
-        _ if *certificate == Certificate::GENESIS => return "genesis certificate".to_string(),
-        CertificateKind::Block => "block",
-        CertificateKind::Weak => "weak",
-    };
-    let signers = join(oracle::members(certificate.signers));
-    format!("{kind} certificate for {} in view {} by {signers}", letter(&certificate.name), certificate.view.0)
-}
-
-fn timeout_words(timeout: &Timeout) -> String {
-    let certificate = certificate_words(&timeout.certificate);
-    let high_vote = pair(timeout.high_vote);
-    format!("timeout of {} for view {}: high vote {high_vote}, {certificate}", timeout.sender, timeout.view.0)
-}
-
-/// A name by its first letter, as scripts name blocks.
-fn letter(name: &Name) -> String {
-    match name[0] {
-        _ if *name == GENESIS => "genesis".to_string(),
-        first if first.is_ascii_alphabetic() => (first as char).to_string(),
-        first => format!("#{first}"),
-    }
 }

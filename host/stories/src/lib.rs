@@ -1,0 +1,59 @@
+//! Runs that are kept in `runs/`: inputs of the run program with the lines that it must print, and the story of two
+//! blocks for one container, whole and as each honest replica lives it. All bytes follow from this code alone.
+
+mod damaged;
+mod folder;
+mod make;
+mod readme;
+mod refusals;
+mod releases;
+mod story;
+
+pub use folder::{files, File};
+pub use readme::readme;
+pub use story::{beside, play, recording, Ranking};
+
+/// A call of a stored run, with what it is there for.
+pub struct Told {
+    pub record: Vec<u8>,
+    /// The answer as 01 has it, said without running anything.
+    pub answer: u16,
+    pub about: &'static str,
+}
+
+/// A run of one replica.
+pub struct StoredRun {
+    pub name: &'static str,
+    pub about: &'static str,
+    /// What the run program reads.
+    pub input: Vec<u8>,
+    /// The calls in the input one by one, where each has its own comment.
+    pub told: Vec<Told>,
+}
+
+impl StoredRun {
+    fn plain(name: &'static str, about: &'static str, input: Vec<u8>) -> StoredRun {
+        StoredRun { name, about, input, told: Vec::new() }
+    }
+
+    fn told(name: &'static str, about: &'static str, own: u16, told: Vec<Told>) -> StoredRun {
+        let mut input = make::opening(own);
+        told.iter().for_each(|call| input.extend_from_slice(&call.record));
+        StoredRun { name, about, input, told }
+    }
+
+    /// What 01's run program prints for it, by the oracle.
+    pub fn listing(&self) -> String {
+        let mut lines = Vec::new();
+        oracle::run::run(&self.input, oracle::run::Options::default(), &mut lines).expect("a vector takes all lines");
+        String::from_utf8(lines).expect("lines are text")
+    }
+}
+
+/// All runs of one replica.
+pub fn runs() -> Vec<StoredRun> {
+    let mut runs = vec![releases::listing(), releases::fast(), releases::slow(), story::next_leader()];
+    runs.extend(story::inputs());
+    runs.extend([damaged::run(), refusals::run(), refusals::bad_settings()]);
+    runs
+}
