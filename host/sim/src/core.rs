@@ -53,3 +53,56 @@ impl Core for oracle::Replica {
         self.counters.tip.height.0
     }
 }
+
+/// The proved library. Its replica isn't to be cloned by a host that runs it; here a clone is a save that is restored.
+pub struct Proved(replica::Replica);
+
+impl Clone for Proved {
+    fn clone(&self) -> Proved {
+        Proved(replica::Replica::restore(&self.0.save()).expect("what a call left"))
+    }
+}
+
+/// The answer's number; what was written is appended.
+fn answer(reply: Result<replica::Accepted<'_>, replica::Refusal>, output: &mut Vec<u8>) -> u16 {
+    match reply {
+        Ok(accepted) => {
+            output.extend_from_slice(accepted.unsaved().bytes());
+            0
+        }
+        Err(refusal) => refusal.number() as u16,
+    }
+}
+
+impl Core for Proved {
+    type Options = ();
+
+    fn open((): (), f: u64, c: u64, k: u64, n: u64, own: u64) -> Result<Self, u16> {
+        let opened = replica::Replica::open(replica::Settings { f, c, k, n }, own);
+        opened.map(Proved).map_err(|refusal| refusal.number() as u16)
+    }
+
+    fn record(&mut self, bytes: &[u8], output: &mut Vec<u8>) -> u16 {
+        answer(self.0.record(bytes), output)
+    }
+
+    fn timer(&mut self, view: u64, output: &mut Vec<u8>) -> u16 {
+        answer(self.0.timer(replica::View(view)), output)
+    }
+
+    fn propose(&mut self, name: [u8; 32], output: &mut Vec<u8>) -> u16 {
+        answer(self.0.propose(replica::Name { bytes: name }), output)
+    }
+
+    fn view(&self) -> u64 {
+        self.0.view().0
+    }
+
+    fn timed(&self) -> u64 {
+        self.0.timed().0
+    }
+
+    fn height(&self) -> u64 {
+        self.0.tip().height.0
+    }
+}

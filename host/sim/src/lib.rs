@@ -16,7 +16,7 @@ pub mod scenarios;
 mod script;
 pub mod words;
 
-pub use crate::core::Core;
+pub use crate::core::{Core, Proved};
 pub use chain::{Rows, Violation};
 pub use cluster::{Cluster, Outcome};
 pub use coverage::{Call, Coverage, Row, SafeKind};

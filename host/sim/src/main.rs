@@ -4,11 +4,11 @@ use std::process::ExitCode;
 use std::time::Instant;
 
 use oracle::{Faults, Protocol, Replica, Settings};
-use sim::{scenarios, Coverage, Plan, Script, Style};
+use sim::{scenarios, Core, Coverage, Plan, Proved, Script, Style};
 
 const USAGE: &str = "\
 usage: sim [--calls N] [--seed S] [--settings f,c,k].. [--longest N]
-           [--style both|network|rounds|old-states] [--fault NAME]..
+           [--style both|network|rounds|old-states] [--fault NAME].. [--core oracle|library]
        sim --scenario NAME     the scripted run for a fault, or `resume`, with the error and without it";
 
 struct Options {
@@ -19,6 +19,8 @@ struct Options {
     faults: Faults,
     style: Style,
     scenario: Option<String>,
+    /// Over the proved library in place of the oracle; it has no faults.
+    library: bool,
 }
 
 fn settings(text: &str) -> Option<Settings> {
@@ -48,6 +50,7 @@ fn options(mut arguments: impl Iterator<Item = String>) -> Option<Options> {
         faults: Faults::NONE,
         style: Style::Both,
         scenario: None,
+        library: false,
     };
     while let Some(option) = arguments.next() {
         let value = arguments.next()?;
@@ -59,8 +62,12 @@ fn options(mut arguments: impl Iterator<Item = String>) -> Option<Options> {
             "--style" => options.style = style(&value)?,
             "--fault" if options.faults.set(&value) => {}
             "--scenario" => options.scenario = Some(value),
+            "--core" if value == "library" || value == "oracle" => options.library = value == "library",
             _ => return None,
         }
+    }
+    if options.library && options.faults != Faults::NONE {
+        return None;
     }
     if options.settings.is_empty() {
         let usual = ["1,1,0", "0,4,0", "2,2,2", "1,2,0", "2,1,2", "7,5,0"];
@@ -76,7 +83,8 @@ fn main() -> ExitCode {
     };
     let good = match &options.scenario {
         Some(name) => tell(name),
-        None => explore(&options),
+        None if options.library => explore::<Proved>(&options, ()),
+        None => explore::<Replica>(&options, options.faults),
     };
     if good {
         ExitCode::SUCCESS
@@ -86,17 +94,17 @@ fn main() -> ExitCode {
 }
 
 /// Random runs; false if one broke the claim.
-fn explore(options: &Options) -> bool {
+fn explore<C: Core>(options: &Options, opening: C::Options) -> bool {
     let mut coverage = Coverage::default();
     let mut good = true;
     for &settings in &options.settings {
         let protocol = Protocol::new(settings, options.faults);
-        let plan: Plan<Replica> = Plan {
-            options: options.faults,
+        let plan: Plan<C> = Plan {
+            options: opening,
             protocol,
             seed: options.seed,
             calls: options.calls / options.settings.len() as u64,
-            longest: options.longest.unwrap_or(Plan::<Replica>::usual_longest(&protocol)),
+            longest: options.longest.unwrap_or(Plan::<C>::usual_longest(&protocol)),
             style: options.style,
         };
         let start = Instant::now();

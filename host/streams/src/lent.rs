@@ -119,7 +119,7 @@ fn count(coverage: &mut LentCoverage, before: Option<Replica>, call: &Call, repl
 
 /// Rooms with a garbage state, or one that a run left, in random bytes; mostly some bytes of it are damaged, and at times
 /// one rule of refusal 2 is broken.
-fn garbage_rooms(opening: Opening, random: &mut Random) -> Rooms {
+pub fn garbage_rooms(opening: Opening, random: &mut Random) -> Rooms {
     let mut rooms = Rooms::empty();
     scatter(&mut rooms.memory, random);
     scatter(&mut rooms.store, random);
@@ -144,7 +144,7 @@ fn played(opening: Opening, random: &mut Random) -> Replica {
     play(opening, random.number(), calls, &mut Coverage::default()).replica
 }
 
-fn scatter(bytes: &mut [u8], random: &mut Random) {
+pub fn scatter(bytes: &mut [u8], random: &mut Random) {
     for byte in bytes {
         *byte = random.number() as u8;
     }

@@ -15,6 +15,6 @@ pub use call::Call;
 pub use coverage::{Coverage, Kind, Path, REACHABLE, UNREACHABLE};
 pub use garbage::garbage;
 pub use input::{input, play, Played};
-pub use lent::{lent_input, LentCoverage};
+pub use lent::{garbage_rooms, lent_input, scatter, LentCoverage};
 pub use random::Random;
 pub use stream::{Opening, Stream, SETTINGS};

@@ -1,0 +1,20 @@
+//! The proved library beside the oracle, call by call: the same regions, the same calls, and after each call every byte
+//! compared, in what was lent and around it.
+
+mod difference;
+mod expected;
+mod library;
+mod pair;
+mod run;
+mod shrink;
+mod step;
+mod tally;
+
+pub use difference::Difference;
+pub use expected::Expected;
+pub use library::Library;
+pub use pair::Pair;
+pub use run::{compare_part, compare_run, Kind, Mismatch, Run};
+pub use shrink::{replay, shortest};
+pub use step::{AnyCall, Step};
+pub use tally::Tally;

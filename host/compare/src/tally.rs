@@ -1,0 +1,85 @@
+//! What compared calls came upon.
+
+use std::fmt;
+
+use oracle::{answer, Counters, Refusal, Reply};
+use streams::{Coverage, Kind, Path, REACHABLE};
+
+use crate::expected::Expected;
+use crate::step::{AnyCall, Step};
+
+/// Calls by kind and answer, paths, and openings by answer.
+#[derive(Clone, Debug, Default)]
+pub struct Tally {
+    pub calls: Coverage,
+    pub openings: [u64; 3],
+}
+
+impl Tally {
+    /// Counts a call that both sides made alike.
+    pub fn count(&mut self, step: &Step, reply: Reply, before: Option<Counters>, after: &Expected) {
+        let call = match &step.call {
+            AnyCall::Open(_) => {
+                self.openings[usize::from(answer(reply))] += 1;
+                return;
+            }
+            AnyCall::Call(call) => call,
+        };
+        match (&after.replica, before) {
+            (Some(replica), Some(before)) if reply != Err(Refusal::Regions) => {
+                let output = &after.rooms.output[..reply.unwrap_or(0)];
+                self.calls.count(call, reply, &before, replica, output);
+            }
+            _ => self.calls.count_refused(call, Refusal::Regions),
+        }
+    }
+
+    pub fn compared(&self) -> u64 {
+        self.calls.calls() + self.openings.iter().sum::<u64>()
+    }
+
+    pub fn accepted_percent(&self) -> u64 {
+        100 * (self.calls.accepted() + self.openings[0]) / self.compared().max(1)
+    }
+
+    /// Pairs of 01's table that didn't come up.
+    pub fn missing(&self) -> Vec<(Kind, u16)> {
+        pairs().into_iter().filter(|(kind, answer)| self.calls.of(*kind, *answer) == 0).collect()
+    }
+
+    /// Pairs that came up and aren't in the table.
+    pub fn unlisted(&self) -> Vec<(Kind, u16)> {
+        let listed = pairs();
+        let all = Kind::ALL.into_iter().flat_map(|kind| (0..16).map(move |answer| (kind, answer)));
+        all.filter(|pair| self.calls.of(pair.0, pair.1) > 0 && !listed.contains(pair)).collect()
+    }
+
+    pub fn missing_paths(&self) -> Vec<Path> {
+        self.calls.missing_paths()
+    }
+
+    /// Pairs that came up, openings among them.
+    pub fn pairs_hit(&self) -> usize {
+        pairs().len() - self.missing().len() + self.openings.iter().filter(|&&times| times > 0).count()
+    }
+}
+
+/// What streams can reach, and what lent states add: 2 for every kind, and 13 for propose.
+fn pairs() -> Vec<(Kind, u16)> {
+    let mut pairs = vec![(Kind::Propose, 13)];
+    for (kind, answers) in REACHABLE {
+        pairs.push((kind, 2));
+        pairs.extend(answers.iter().map(|&answer| (kind, answer)));
+    }
+    pairs
+}
+
+impl fmt::Display for Tally {
+    fn fmt(&self, f: &mut fmt::Formatter<'_>) -> fmt::Result {
+        let [accepted, settings, regions] = self.openings;
+        writeln!(f, "{}", self.calls)?;
+        writeln!(f, "openings: {accepted} accepted, {settings} refused by 1, {regions} by 2")?;
+        write!(f, "{} calls compared, {} % accepted, ", self.compared(), self.accepted_percent())?;
+        write!(f, "{} pairs (kind of call, answer), missing {:?}", self.pairs_hit(), self.missing())
+    }
+}

@@ -1,0 +1,36 @@
+//! A million calls on library and oracle. More with `COMPARE_CALLS=N`, other seeds with `COMPARE_SEED=S`.
+
+use compare::{compare_part, Kind, Tally};
+use oracle::Faults;
+use streams::Kind as Call;
+
+fn number(variable: &str, otherwise: u64) -> u64 {
+    std::env::var(variable).map_or(otherwise, |text| text.parse().expect("a number"))
+}
+
+/// Half of the calls, in runs of one kind.
+fn compare_half(kind: Kind) -> Tally {
+    let first = number("COMPARE_SEED", 1);
+    let calls = number("COMPARE_CALLS", 1_100_000) / 2;
+    println!("{kind:?}, seeds from {first} on");
+    let tally = compare_part(kind, first, calls, Faults::NONE).unwrap_or_else(|mismatch| panic!("{mismatch}"));
+    println!("{tally}");
+    assert!(tally.compared() >= calls);
+    assert!(tally.accepted_percent() >= 30);
+    assert_eq!(tally.unlisted(), [], "pairs that 01's table doesn't have");
+    assert_eq!(tally.missing_paths(), []);
+    assert!(tally.openings.iter().all(|&times| times > 0), "openings accepted, refused by 1 and by 2");
+    tally
+}
+
+/// Openings over random bytes and long streams. The one pair missing takes a held block of height 2^62; garbage has it.
+#[test]
+fn library_and_oracle_agree_from_openings() {
+    assert_eq!(compare_half(Kind::Opened).missing(), [(Call::Propose, 13)]);
+}
+
+/// Garbage counters, memory and store: each pair of 01's table comes up, 2 for every kind of call.
+#[test]
+fn library_and_oracle_agree_from_garbage() {
+    assert_eq!(compare_half(Kind::Garbage).missing(), []);
+}

@@ -1,0 +1,41 @@
+//! The comparison notices errors: with each of the oracle's eleven, one at a time, a difference is found, few calls
+//! show it, and what is printed replays it.
+
+use compare::{compare_part, replay, Kind, Mismatch};
+use oracle::Faults;
+
+/// The calls that are compared at most, and that may be left to show the difference.
+const CALLS: u64 = 60_000;
+const FEW: usize = 20;
+
+fn notices(kind: Kind, fault: &str) -> usize {
+    let mut faults = Faults::NONE;
+    assert!(faults.set(fault));
+    let mismatch = compare_part(kind, 0, CALLS, faults).expect_err("a difference");
+    let steps = mismatch.steps.len();
+    println!("{fault}, {kind:?}: {steps} calls, seed {}: {}", mismatch.run.seed, mismatch.difference);
+    assert!(steps <= FEW);
+    replays(&mismatch, faults);
+    steps
+}
+
+fn replays(mismatch: &Mismatch, faults: Faults) {
+    let printed = mismatch.to_string();
+    let again = replay(&printed, faults).expect("lines that replay").expect("the difference again");
+    assert_eq!(again.to_string(), printed);
+    assert!(replay(&printed, Faults::NONE).expect("lines that replay").is_none(), "it is the fault that differs");
+}
+
+#[test]
+fn each_fault_is_noticed_from_garbage() {
+    for fault in Faults::NAMES {
+        notices(Kind::Garbage, fault);
+    }
+}
+
+#[test]
+fn each_fault_is_noticed_from_openings() {
+    for fault in Faults::NAMES {
+        notices(Kind::Opened, fault);
+    }
+}

@@ -1,0 +1,188 @@
+//! How much stack a call takes at most: calls are made over a stack that was painted, and the deepest changed word counts.
+
+#![cfg(target_arch = "x86_64")]
+
+use std::arch::asm;
+
+use compare::{AnyCall, Expected, Kind, Library, Run, Step};
+use oracle::lent::Rooms;
+use oracle::{wire, Block, Faults, Height, View, Vote};
+use streams::Call;
+
+/// What a call may take. Measured: 149,832 bytes where a full store is released.
+const BOUND: usize = 160 * 1024;
+/// What is painted, and the thread's stack.
+const PAINTED: usize = 256 * 1024;
+const STACK: usize = 1024 * 1024;
+const PAINT: u64 = 0x9D1F_3C55_A0B7_E246;
+
+/// How many bytes of stack below this frame the call writes to.
+#[inline(never)]
+fn depth_of(call: impl FnOnce()) -> usize {
+    let top: usize;
+    // SAFETY: reads a register.
+    unsafe { asm!("mov {}, rsp", out(reg) top, options(nomem, nostack, preserves_flags)) };
+    let floor = top - PAINTED;
+    for word in (floor..top - 8).step_by(8) {
+        // SAFETY: below this frame lie more than PAINTED bytes of the thread's stack, and nothing there is in use.
+        unsafe { (word as *mut u64).write_volatile(PAINT) };
+    }
+    call();
+    // SAFETY: as above.
+    let unchanged =
+        (floor..top).step_by(8).take_while(|&word| unsafe { (word as *const u64).read_volatile() } == PAINT);
+    PAINTED - 8 * unchanged.count()
+}
+
+/// The deepest of these calls by kind of call: open, record, timer, propose.
+fn depths(rooms: Rooms, steps: impl IntoIterator<Item = Step>) -> [usize; 4] {
+    let mut library = Library::new(&rooms);
+    let mut deepest = [0; 4];
+    for step in steps {
+        let kind = match step.call {
+            AnyCall::Open(_) => 0,
+            AnyCall::Call(Call::Record(_)) => 1,
+            AnyCall::Call(Call::Timer(_)) => 2,
+            AnyCall::Call(Call::Propose(_)) => 3,
+        };
+        let depth = depth_of(|| {
+            library.step(&step);
+        });
+        deepest[kind] = deepest[kind].max(depth);
+    }
+    deepest
+}
+
+fn on_a_thread(measure: impl FnOnce() -> [usize; 4] + Send + 'static) -> [usize; 4] {
+    let thread = std::thread::Builder::new().stack_size(STACK).spawn(measure).expect("a thread");
+    thread.join().expect("a depth")
+}
+
+fn higher(one: [usize; 4], two: [usize; 4]) -> [usize; 4] {
+    std::array::from_fn(|i| one[i].max(two[i]))
+}
+
+fn name(number: u64) -> [u8; 32] {
+    let mut name = [7; 32];
+    name[..8].copy_from_slice(&number.to_be_bytes());
+    name
+}
+
+fn step(call: AnyCall) -> Step {
+    Step { lent: Rooms::empty().lent, call }
+}
+
+fn vote(sender: u16, height: u64) -> Step {
+    let mut record = Vec::new();
+    wire::write_vote(&mut record, sender, Vote { view: View(1), name: name(height) });
+    step(AnyCall::Call(Call::Record(record)))
+}
+
+/// The cluster of 32: replica 1 holds one chain of so many blocks, and 29 of the 30 votes that release the block of this
+/// height; a certificate of view 1 was formed, and it leads view 2.
+fn chain_before_release(blocks: u64, height: u64) -> Rooms {
+    let mut oracle = with_chain([7, 5, 0, 32, 1], blocks);
+    (2..31).for_each(|sender| assert!(oracle.step(&vote(sender, height)).is_ok()));
+    oracle.rooms
+}
+
+/// A replica that was opened with these numbers and holds one chain of so many blocks.
+fn with_chain(opening: [u64; 5], blocks: u64) -> Expected {
+    let mut oracle = Expected::new(Rooms::empty(), Faults::NONE);
+    assert_eq!(oracle.step(&step(AnyCall::Open(opening))), Ok(0));
+    for i in 1..=blocks {
+        let parent = if i == 1 { oracle::GENESIS } else { name(i - 1) };
+        let mut record = Vec::new();
+        wire::write_block(&mut record, 3, &Block { name: name(i), parent, height: Height(i) });
+        assert_eq!(oracle.step(&step(AnyCall::Call(Call::Record(record)))), Ok(0));
+    }
+    oracle
+}
+
+/// Rule D's longest search: each view of the window has three decided names, one by votes and two by commits, and only the
+/// very last of them is held, a chain of 128 blocks above the tip. The lock is so high that no certificate is formed.
+fn many_decided_names() -> Rooms {
+    const VOTES: usize = 3_624;
+    const COMMITS: usize = 11_880;
+    const ROW: usize = 1_032;
+    let mut rooms = with_chain([0, 15, 1, 32, 1], 128).rooms;
+    rooms.counters[..8].copy_from_slice(&5u64.to_le_bytes());
+    rooms.counters[56..64].copy_from_slice(&View::MAX.0.to_le_bytes());
+    for view in 1..=8 {
+        let decided = |number: u8| {
+            let mut name = [0; 32];
+            name[31] = number;
+            name
+        };
+        let by_votes = if view == 8 { name(128) } else { decided(3) };
+        for replica in 0..32 {
+            let by_commits = decided(if replica < 16 { 1 } else { 2 });
+            for (rows, name) in [(VOTES, by_votes), (COMMITS, by_commits)] {
+                let row = &mut rooms.memory[rows + ROW * (view % 8)..][..ROW];
+                row[..4].fill(0xFF);
+                row[8 + 32 * replica..][..32].copy_from_slice(&name);
+            }
+        }
+    }
+    rooms
+}
+
+/// The last vote, put into memory by hand, so that any accepted call releases.
+fn with_last_vote(mut rooms: Rooms, height: u64) -> Rooms {
+    const ROW: usize = 3_624 + 1_032; // of view 1
+    rooms.memory[ROW + 3] |= 1 << 7;
+    rooms.memory[ROW + 8 + 32 * 31..][..32].copy_from_slice(&name(height));
+    rooms
+}
+
+/// Runs of both kinds.
+#[test]
+fn stack_of_runs() {
+    let mut deepest = [0; 4];
+    for (kind, seeds) in [(Kind::Opened, 10), (Kind::Garbage, 300)] {
+        for seed in 0..seeds {
+            let run = Run { kind, seed };
+            let steps = run.steps(kind.calls() as usize);
+            deepest = higher(deepest, on_a_thread(move || depths(run.start(), steps)));
+        }
+    }
+    println!("runs: {deepest:?} bytes of stack in open, record, timer, propose");
+    assert!(deepest.iter().all(|&depth| depth > 0 && depth <= BOUND));
+}
+
+/// The depth of a call that releases up to this height at least.
+fn depth_of_release(rooms: Rooms, step: Step, height: u64) -> [usize; 4] {
+    let mut oracle = Expected::new(rooms.clone(), Faults::NONE);
+    assert!(oracle.step(&step).is_ok());
+    assert!(oracle.replica.expect("a replica").counters.tip.height >= Height(height));
+    on_a_thread(move || depths(rooms, [step]))
+}
+
+/// The walks that go deepest: in a full store the lowest or the highest block is released, or one between. For propose
+/// there is a place left.
+#[test]
+fn stack_of_a_release_from_a_full_store() {
+    let mut deepest = [0; 4];
+    for height in [1, 64, 127, 128] {
+        let timer = step(AnyCall::Call(Call::Timer(2)));
+        let propose = step(AnyCall::Call(Call::Propose([9; 32])));
+        let below = height.min(127);
+        for (rooms, step) in [
+            (chain_before_release(128, height), vote(31, height)),
+            (with_last_vote(chain_before_release(128, height), height), timer),
+            (with_last_vote(chain_before_release(127, below), below), propose),
+        ] {
+            deepest = higher(deepest, depth_of_release(rooms, step, below));
+        }
+    }
+    let [_, record, timer, propose] = deepest;
+    println!("full store: {record} bytes of stack in record, {timer} in timer, {propose} in propose");
+    assert!([record, timer, propose].iter().all(|&depth| depth > 0 && depth <= BOUND));
+}
+
+#[test]
+fn stack_of_the_longest_search() {
+    let [_, _, timer, _] = depth_of_release(many_decided_names(), step(AnyCall::Call(Call::Timer(5))), 128);
+    println!("many decided names: {timer} bytes of stack in timer");
+    assert!(timer > 0 && timer <= BOUND);
+}

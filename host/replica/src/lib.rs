@@ -1,0 +1,54 @@
+//! The proved replica for a Rust host: owned regions, typed answers, typed output.
+//!
+//! The calls are those of the library that `rt staticlib replica` builds from `crates/replica`; `build.rs` has it built
+//! where it is missing or older than its sources. Each call is proved to do what `docs/INTERFACE.md` and the definitions
+//! behind it say, on any input and any content of the regions. This crate only lends the regions and reads what comes
+//! back; [`raw`] has the calls as they are.
+//!
+//! What the proof of one chain asks of a host stands in `docs/INTERFACE.md`: signatures are checked before a record comes in,
+//! the state is saved before any output byte is sent, a replica resumes only from its last finished call.
+//!
+//! Four replicas of six vote for the block that the first one proposes, and commit to it:
+//!
+//! ```
+//! use replica::{Content, Height, Name, Receiver, Refusal, Replica, Settings};
+//!
+//! let settings = Settings { f: 1, c: 1, k: 0, n: 6 };
+//! let mut cluster = (0..4).map(|own| Replica::open(settings, own)).collect::<Result<Vec<_>, Refusal>>()?;
+//! let mut waiting = Vec::new(); // records on their way: to whom, and the bytes
+//! let mut released = Vec::new();
+//!
+//! let name = Name { bytes: [7; 32] };
+//! let output = cluster[0].propose(name)?.unsaved();
+//! waiting.extend(output.records().flat_map(|record| (1..4).map(move |to| (to, record.bytes.to_vec()))));
+//!
+//! while let Some((to, record)) = waiting.pop() {
+//!     let Ok(accepted) = cluster[to].record(&record) else { continue };
+//!     for (receiver, record) in accepted.unsaved().sendings() {
+//!         match (receiver, record.content) {
+//!             (Receiver::Others, _) => {
+//!                 waiting.extend((0..4).filter(|&other| other != to).map(|other| (other, record.bytes.to_vec())))
+//!             }
+//!             (Receiver::Host, Content::Release(release)) => released.push((to, release.name, release.height)),
+//!             _ => {}
+//!         }
+//!     }
+//! }
+//!
+//! released.sort();
+//! assert_eq!(released, [0, 1, 2, 3].map(|own| (own, name, Height(1))));
+//! assert!(cluster.iter().all(|replica| replica.tip().name == name));
+//! # Ok::<(), Refusal>(())
+//! ```
+
+mod record;
+mod refusal;
+mod replica;
+mod types;
+
+pub mod raw;
+
+pub use record::{Content, Progress, Proposal, Receiver, Record, Release, Timeout, TimeoutCertificate};
+pub use refusal::Refusal;
+pub use replica::{Accepted, Output, Replica};
+pub use types::{Block, Certificate, Counters, Height, Name, Settings, View, Vote};

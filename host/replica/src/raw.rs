@@ -1,0 +1,174 @@
+//! The library's calls on lent regions of any length and any content. No call has a precondition: what is too short or
+//! breaks a rule gets refusal 2, and a refused call leaves every byte.
+
+use crate::types::{Block, Counters, Name, Settings};
+
+/// The least lengths that calls take: memory in bytes, store in blocks, output in bytes.
+pub const MEMORY: usize = 34_504;
+pub const STORE: usize = 128;
+pub const OUTPUT: usize = 32_768;
+
+/// What a call answers: refusal 0 is acceptance with the number of bytes written.
+#[derive(Clone, Copy, Debug, PartialEq, Eq)]
+#[repr(C)]
+pub struct Reply {
+    pub refusal: u64,
+    pub written: usize,
+}
+
+/// What a host lends for a call.
+pub struct Lent<'a> {
+    pub counters: &'a mut Counters,
+    pub memory: &'a mut [u8],
+    pub store: &'a mut [Block],
+    pub output: &'a mut [u8],
+}
+
+// A slice crosses as a pointer and a length; a reply comes back in two registers, and a name goes in on the stack.
+extern "C" {
+    fn hydrangea_open(
+        counters: *mut Counters,
+        memory: *mut u8,
+        memory_length: usize,
+        store: *const Block,
+        store_length: usize,
+        f: u64,
+        c: u64,
+        k: u64,
+        n: u64,
+        own: u64,
+    ) -> Reply;
+
+    fn hydrangea_record(
+        counters: *mut Counters,
+        memory: *mut u8,
+        memory_length: usize,
+        store: *mut Block,
+        store_length: usize,
+        output: *mut u8,
+        output_length: usize,
+        record: *const u8,
+        record_length: usize,
+    ) -> Reply;
+
+    fn hydrangea_timer(
+        counters: *mut Counters,
+        memory: *mut u8,
+        memory_length: usize,
+        store: *mut Block,
+        store_length: usize,
+        output: *mut u8,
+        output_length: usize,
+        view: u64,
+    ) -> Reply;
+
+    fn hydrangea_propose(
+        counters: *mut Counters,
+        memory: *mut u8,
+        memory_length: usize,
+        store: *mut Block,
+        store_length: usize,
+        output: *mut u8,
+        output_length: usize,
+        name: Name,
+    ) -> Reply;
+}
+
+/// Opens a replica in what is lent. The store's entries are left as they are.
+pub fn open(counters: &mut Counters, memory: &mut [u8], store: &[Block], settings: Settings, own: u64) -> Reply {
+    let Settings { f, c, k, n } = settings;
+    let (memory, memory_length) = (memory.as_mut_ptr(), memory.len());
+    // SAFETY: each pointer is valid for its length, and a call reads and writes nothing else.
+    unsafe { hydrangea_open(counters, memory, memory_length, store.as_ptr(), store.len(), f, c, k, n, own) }
+}
+
+impl Lent<'_> {
+    /// A record of any bytes.
+    pub fn record(&mut self, record: &[u8]) -> Reply {
+        // SAFETY: as above; the regions are borrowed for the call, so none overlaps another.
+        unsafe {
+            hydrangea_record(
+                self.counters,
+                self.memory.as_mut_ptr(),
+                self.memory.len(),
+                self.store.as_mut_ptr(),
+                self.store.len(),
+                self.output.as_mut_ptr(),
+                self.output.len(),
+                record.as_ptr(),
+                record.len(),
+            )
+        }
+    }
+
+    /// The timer of a view.
+    pub fn timer(&mut self, view: u64) -> Reply {
+        // SAFETY: as for a record.
+        unsafe {
+            hydrangea_timer(
+                self.counters,
+                self.memory.as_mut_ptr(),
+                self.memory.len(),
+                self.store.as_mut_ptr(),
+                self.store.len(),
+                self.output.as_mut_ptr(),
+                self.output.len(),
+                view,
+            )
+        }
+    }
+
+    /// A block of this name is proposed.
+    pub fn propose(&mut self, name: Name) -> Reply {
+        // SAFETY: as for a record.
+        unsafe {
+            hydrangea_propose(
+                self.counters,
+                self.memory.as_mut_ptr(),
+                self.memory.len(),
+                self.store.as_mut_ptr(),
+                self.store.len(),
+                self.output.as_mut_ptr(),
+                self.output.len(),
+                name,
+            )
+        }
+    }
+}
+
+/// The counters as the bytes that they are.
+pub fn counters_bytes(counters: &Counters) -> &[u8] {
+    as_bytes(std::slice::from_ref(counters))
+}
+
+/// The same, to be written.
+pub fn counters_bytes_mut(counters: &mut Counters) -> &mut [u8] {
+    as_bytes_mut(std::slice::from_mut(counters))
+}
+
+/// Blocks as the bytes that they are, 72 each.
+pub fn block_bytes(blocks: &[Block]) -> &[u8] {
+    as_bytes(blocks)
+}
+
+/// The same, to be written.
+pub fn block_bytes_mut(blocks: &mut [Block]) -> &mut [u8] {
+    as_bytes_mut(blocks)
+}
+
+/// A type without gaps of which any bits are a value.
+trait Plain {}
+impl Plain for Counters {}
+impl Plain for Block {}
+
+const _: () = assert!(size_of::<Counters>() == 224 && size_of::<Block>() == 72);
+
+fn as_bytes<T: Plain>(items: &[T]) -> &[u8] {
+    // SAFETY: a type that is plain has no byte that isn't set, and bytes need no alignment.
+    unsafe { std::slice::from_raw_parts(items.as_ptr().cast(), size_of_val(items)) }
+}
+
+fn as_bytes_mut<T: Plain>(items: &mut [T]) -> &mut [u8] {
+    // SAFETY: as above, and whatever bytes are written are a value.
+    unsafe { std::slice::from_raw_parts_mut(items.as_mut_ptr().cast(), size_of_val(items)) }
+}

@@ -1,0 +1,95 @@
+//! Why a call is refused.
+
+use std::error::Error;
+use std::fmt;
+
+/// 01's refusals, by place, in the order in which they are judged. A refused call changes nothing.
+#[derive(Clone, Copy, Debug, PartialEq, Eq, PartialOrd, Ord, Hash)]
+#[repr(u64)]
+pub enum Refusal {
+    Settings = 1,
+    Regions = 2,
+    Length = 3,
+    Kind = 4,
+    Content = 5,
+    Party = 6,
+    ViewBelow = 7,
+    ViewAbove = 8,
+    Certificate = 9,
+    Repeated = 10,
+    Conflicting = 11,
+    ParentMissing = 12,
+    ParentWrong = 13,
+    StoreFull = 14,
+    Turn = 15,
+}
+
+impl Refusal {
+    /// All of them, number 1 first.
+    pub const ALL: [Refusal; 15] = [
+        Refusal::Settings,
+        Refusal::Regions,
+        Refusal::Length,
+        Refusal::Kind,
+        Refusal::Content,
+        Refusal::Party,
+        Refusal::ViewBelow,
+        Refusal::ViewAbove,
+        Refusal::Certificate,
+        Refusal::Repeated,
+        Refusal::Conflicting,
+        Refusal::ParentMissing,
+        Refusal::ParentWrong,
+        Refusal::StoreFull,
+        Refusal::Turn,
+    ];
+
+    /// The refusal of this number; none for 0, which is acceptance, and from 16 on.
+    ///
+    /// ```
+    /// use replica::Refusal;
+    ///
+    /// assert_eq!(Refusal::of(10), Some(Refusal::Repeated));
+    /// assert_eq!(Refusal::of(0), None);
+    /// assert!(Refusal::ALL.into_iter().all(|refusal| Refusal::of(refusal.number()) == Some(refusal)));
+    /// ```
+    pub fn of(number: u64) -> Option<Refusal> {
+        Refusal::ALL.into_iter().find(|refusal| refusal.number() == number)
+    }
+
+    /// 01's number, 1 to 15.
+    pub fn number(self) -> u64 {
+        self as u64
+    }
+
+    /// 01's condition in short.
+    pub fn meaning(self) -> &'static str {
+        match self {
+            Refusal::Settings => "settings break a rule, or the own number is n or above",
+            Refusal::Regions => "a region is too short, or memory or store break a rule",
+            Refusal::Length => "a length is wrong, of the slice, its length field, its kind or an inner record",
+            Refusal::Kind => "a kind is unknown or out of place",
+            Refusal::Content => "padding, a name, a high vote, a signer set or an inner record isn't as it must be",
+            Refusal::Party => "the sender is outside of the cluster, oneself, or not the leader of the view",
+            Refusal::ViewBelow => "the view is below the window or the current view, or 0",
+            Refusal::ViewAbove => "the view is above the window, the current view or the limit",
+            Refusal::Certificate => "too few signers or timeouts, or a certificate that isn't good",
+            Refusal::Repeated => "the same was taken before, or nothing is gained by it",
+            Refusal::Conflicting => "another one was taken in its place",
+            Refusal::ParentMissing => "the parent or the safe block isn't held",
+            Refusal::ParentWrong => {
+                "the parent isn't the safe block, or the height isn't the parent's plus 1 or too high"
+            }
+            Refusal::StoreFull => "the block is new and the store is full",
+            Refusal::Turn => "it isn't this replica's turn to propose",
+        }
+    }
+}
+
+impl fmt::Display for Refusal {
+    fn fmt(&self, f: &mut fmt::Formatter<'_>) -> fmt::Result {
+        write!(f, "refusal {}: {}", self.number(), self.meaning())
+    }
+}
+
+impl Error for Refusal {}

@@ -1,0 +1,29 @@
+//! 01's "Known results" on the library: settings, and the calls of the listing.
+
+use replica::{Name, Refusal, Replica, Settings, View};
+
+#[test]
+fn settings_are_taken_or_refused() {
+    for (f, c, k, n) in [(1, 1, 0, 6), (2, 2, 2, 13), (7, 5, 0, 32), (0, 4, 0, 9)] {
+        let settings = Settings { f, c, k, n };
+        let last = Replica::open(settings, n - 1).expect("settings that are taken");
+        assert_eq!((last.settings(), u64::from(last.own())), (settings, n - 1));
+        assert_eq!(Replica::open(settings, n).err(), Some(Refusal::Settings));
+        assert_eq!(Replica::open(Settings { n: n + 1, ..settings }, 0).err(), Some(Refusal::Settings));
+    }
+    for (f, c, k, n) in [(2, 0, 1, 8), (8, 4, 0, 33), (0, 0, 0, 1), (u64::MAX, 1, 0, 6), (1, 1, u64::MAX, 6)] {
+        assert_eq!(Replica::open(Settings { f, c, k, n }, 0).err(), Some(Refusal::Settings), "{f} {c} {k} {n}");
+    }
+}
+
+#[test]
+fn the_listing() {
+    let mut replica = Replica::open(Settings { f: 1, c: 1, k: 0, n: 6 }, 1).expect("settings that are taken");
+    let mut answers = Vec::new();
+    for view in [2, 1, 1] {
+        answers.push(replica.timer(View(view)).err().map_or(0, Refusal::number));
+    }
+    answers.push(replica.propose(Name { bytes: [1; 32] }).err().map_or(0, Refusal::number));
+    assert_eq!(answers, [8, 0, 10, 15]);
+    assert_eq!((replica.view(), replica.timed(), replica.tip().height.0), (View(1), View(1), 0));
+}
