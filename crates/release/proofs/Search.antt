@@ -1,7 +1,7 @@
 -- The search goes on as `releasable` and `lowestPair` do: one step of it, where it begins, and that it reads nothing that was written. Assumes nothing.
 use Prim.Native.Nat.{ℕ, zero, suc, _+_, _-_, _^_, _≤_, _<_}
 use native.Mathlib.Omega.{arith}
-use mathlib.Core.Path.{_≡_, refl, ap, _∙_}
+use mathlib.Core.Path.{_≡_, refl, sym, ap, _∙_}
 use mathlib.Core.Bool.{Bool, true, false, cond, _&&_, false≢true, true≢false}
 use mathlib.Core.List.{List}
 use borrow.Author.Tests.{lt-ltb}
@@ -12,6 +12,7 @@ use Rattle.blocks.specs.declared.Block.{Block}
 use Rattle.blocks.specs.declared.Found.{Found}
 use Rattle.blocks.specs.Store.{held, descends}
 use Rattle.memory.specs.declared.decided.Choice.{Choice}
+use Rattle.memory.specs.Layout.{blockCountOf}
 use Rattle.memory.specs.Window.{lowest, highest}
 use Rattle.memory.specs.Decided.{noChoice, nextDecided}
 use Rattle.counters.specs.declared.Counters.{Counters}
@@ -83,12 +84,37 @@ pub follows : (p : Place) (W : Work)
 unfolding lookOf stepOf nextName
 follows p W = found (p .view) (record { some = p .some; name = p .name }) W (p .views) (p .tries) _ _ refl refl
 
+-- where no name was found, nothing else matters
+step-none : (p : Place) (l : Look) (b c : Found) (d e : Bool) → l .some ≡ false → stepOf p l b d ≡ stepOf p l c e
+unfolding stepOf
+step-none p l b c d e h = rw h refl
+
+-- where one was found, it is looked for in all that are held
+count-all : (m : List ℕ) (p : Place) → lookOf m p .some ≡ true → lookOf m p .count ≡ blockCountOf m
+unfolding lookOf
+count-all m p h = rw h refl
+
 -- as the code takes it
 pub stepped : (tip : Block) (m : List ℕ) (entries : List Block) (p : Place) (l : Look) (b : Found) (down : Bool) (s : Step) → l ≡ lookOf m p
     → b ≡ held tip (take (l .count) entries) (l .name) → down ≡ descends tip (take (l .count) entries) (b .block) → s ≡ stepOf p l b down
     → Follows p (seen tip m entries) s
-unfolding lookOf
-stepped tip m entries p l b down s e₀ e₁ e₂ e₃ = rw (e₃, e₂, e₁, e₀) (follows p (seen tip m entries))
+stepped tip m entries p l b down s e₀ e₁ e₂ e₃ = go (l .some) refl
+  where
+    W : Work
+    W = seen tip m entries
+
+    c : Found
+    c = heldBlock W (l .name)
+
+    is : stepOf p l b down ≡ stepOf p l c (descends tip (blocks W) (c .block)) → Follows p W s
+    is h = rw (e₃, h, e₀) (follows p W)
+
+    go : (t : Bool) → l .some ≡ t → Follows p W s
+    go false h = is (step-none p l b c down (descends tip (blocks W) (c .block)) h)
+    go true h =
+        let n : l .count ≡ blockCountOf m = ap (λ (z : Look). z .count) e₀ ∙ count-all m p (sym (ap (λ (z : Look). z .some) e₀) ∙ h) in
+        let e-b : b ≡ c = e₁ ∙ ap (λ (k : ℕ). held tip (take k entries) (l .name)) n in
+        is (rw (e₂, n, e-b) refl)
 
 -- ---- WHERE IT BEGINS
 pub first-within : (v : ℕ) (m : List ℕ) → v ≤ lastView → firstPlace v m .view + firstPlace v m .views < 2 ^ 63

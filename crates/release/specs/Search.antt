@@ -87,7 +87,7 @@ questOf m v =
 unfoldable pub lookOf : List ℕ → Place → Look
 lookOf m p =
     let x = nextDecided m (questOf m (p .view)) (afterOf p) in
-    record { some = x .some; name = x .name; count = blockCountOf m; tries = triesOf m }
+    record { some = x .some; name = x .name; count = cond (x .some) (blockCountOf m) 0; tries = triesOf m }
 
 abbrev pub goesTo : Place → Step
 goesTo p = record { goes = true; place = p; target = noTarget }

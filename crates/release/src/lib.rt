@@ -41,7 +41,7 @@ struct Place {
     tries: usize,
 }
 
-// What the memory says there: the next decided name, if there is one; the number of held blocks, and of names that a view is tried for.
+// What the memory says there: the next decided name, if there is one; in how many entries it is looked for, and how many names a view is tried for.
 struct Look {
     some: bool,
     name: [u8; 32],
@@ -94,6 +94,17 @@ fn first_place(mem: &[u8], view: View) -> Place
     }
 }
 
+// The store is searched for a decided name alone: where there is none, in no entry.
+fn entries_asked(mem: &[u8], some: bool) -> usize
+    requires { ⌜ memoryLength ≤ length (now mem) ⌝ }
+    ensures { λ r. ⌜ r ≡ cond some (blockCountOf (now (mem .entry))) 0 ⌝ }
+{
+    if some {
+        return block_count(mem);
+    }
+    0
+}
+
 fn look_at(mem: &[u8], p: Place) -> Look
     requires { ⌜ (memoryLength ≤ length (now mem)) × (replicas (settingsOf (now mem)) ≤ largest) ⌝ }
     ensures { λ r. ⌜ r ≡ lookOf (now (mem .entry)) p ⌝ }
@@ -115,7 +126,7 @@ fn look_at(mem: &[u8], p: Place) -> Look
     Look {
         some: x.some,
         name: found,
-        count: block_count(mem),
+        count: entries_asked(mem, x.some),
         tries: n + n + 1,
     }
 }

@@ -5,9 +5,9 @@ use Rattle.release.proofs.look_at.Statement.{statement}
 use Rattle.release.proofs.look_at.Tie as tie
 use Rattle.release.proofs.look_at.Reads as reads
 use Rattle.release.proofs.look_at.Lts as lts
-use Rattle.memory.proofs.block_count.Reads as block-count-reads
 use Rattle.memory.proofs.decided.next_decided.Reads as next-decided-reads
 use Rattle.memory.proofs.settings.Reads as settings-reads
+use Rattle.release.proofs.entries_asked.Reads as entries-asked-reads
 use Rattle.settings.proofs.Settings.fast_quorum.Reads as fast-quorum-reads
 use Rattle.settings.proofs.Settings.n.Reads as n-reads
 use Rattle.settings.proofs.Settings.slow_quorum.Reads as slow-quorum-reads
@@ -27,8 +27,8 @@ slow-quorum-requires c κs = search needs
 next-decided-requires : tie.Need-next-decided-requires
 next-decided-requires c κs = (c .before .before .before .before .before .before .pre .0, rw (c .before .before .before .n .ensures, c .before .before .before .before .settings .ensures) (c .before .before .before .before .before .before .pre .1))
 
-block-count-requires : tie.Need-block-count-requires
-block-count-requires c κs = search needs
+entries-asked-requires : tie.Need-entries-asked-requires
+entries-asked-requires c κs = search needs
 
 add-t13 : tie.Need-add-t13
 add-t13 c = search needs
@@ -38,7 +38,7 @@ add-t14 c = search needs
 
 returns : tie.Need-returns
 unfolding lookOf
-returns c = rw (c .before .before .next-decided .ensures, c .block-count .ensures, c .before .before .before .slow-quorum .ensures, c .before .before .before .before .fast-quorum .ensures, c .before .before .before .before .before .before .n .ensures, c .before .before .before .before .before .before .before .settings .ensures)
+returns c = rw (c .entries-asked .ensures, c .before .before .next-decided .ensures, c .before .before .before .slow-quorum .ensures, c .before .before .before .before .fast-quorum .ensures, c .before .before .before .before .before .before .n .ensures, c .before .before .before .before .before .before .before .settings .ensures)
 
 pub look-at-spec : {M : Type 1} → statement M
 look-at-spec =
@@ -49,7 +49,7 @@ look-at-spec =
     fast-quorum-requires
     slow-quorum-requires
     next-decided-requires
-    block-count-requires
+    entries-asked-requires
     add-t13
     add-t14
     returns)
