@@ -17,11 +17,11 @@ use Rattle.blocks.specs.declared.Block.{Block}
 pub name-size : (x : List ℕ) → At (bytes 32) x → length x ≡ 32
 name-size x is = is .1 .0 .1
 
-length-release : (sender view : ℕ) (name : List ℕ) (height : ℕ) → length name ≡ 32 → length (releaseBytes sender view name height) ≡ 56
+pub length-release : (sender view : ℕ) (name : List ℕ) (height : ℕ) → length name ≡ 32 → length (releaseBytes sender view name height) ≡ 56
 unfolding releaseBytes
 length-release sender view name height e = simp (length-append, length-header, length-leBytes, e)
 
-releases-more : (sender view : ℕ) (row : List Block) (b : Block) → releases sender view (row ++ (b ∷ [])) ≡ releases sender view row ++ releaseBytes sender view (b .name) (b .height .0)
+pub releases-more : (sender view : ℕ) (row : List Block) (b : Block) → releases sender view (row ++ (b ∷ [])) ≡ releases sender view row ++ releaseBytes sender view (b .name) (b .height .0)
 unfolding releases joined
 releases-more sender view [] b = append-nil _
 releases-more sender view (a ∷ row) b =

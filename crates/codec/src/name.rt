@@ -15,7 +15,7 @@ pub fn same(a: [u8; 32], b: [u8; 32]) -> bool
     true
 }
 
-pub fn less(a: [u8; 32], b: [u8; 32]) -> bool
+fn less_in_order(a: [u8; 32], b: [u8; 32]) -> bool
     ensures { λ r. ⌜ r ≡ lessBytes a b ⌝ }
 {
     let mut i = 0;
@@ -29,6 +29,16 @@ pub fn less(a: [u8; 32], b: [u8; 32]) -> bool
         i += 1;
     }
     false
+}
+
+// Names that are the same, the usual case, are found out first: 32 bytes are compared at once there.
+pub fn less(a: [u8; 32], b: [u8; 32]) -> bool
+    ensures { λ r. ⌜ r ≡ lessBytes a b ⌝ }
+{
+    if same(a, b) {
+        return false;
+    }
+    less_in_order(a, b)
 }
 
 // The all-zero name is genesis.

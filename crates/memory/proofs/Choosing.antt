@@ -22,15 +22,15 @@ pub record Entry (m : List ℕ) (row n : ℕ) (x : List ℕ) : Type 0 where
   pub there : has m row by ≡ true
   pub name : kept m row nameLength by ≡ x
 
--- x is decided and above the bound
-pub record Fit (m : List ℕ) (q : Quest) (after : Choice) (x : List ℕ) : Type 0 where
-  pub enough : decided m q x ≡ true
+-- x passes the test and is above the bound
+pub record Fit (test : List ℕ → Bool) (after : Choice) (x : List ℕ) : Type 0 where
+  pub enough : test x ≡ true
   pub higher : above after x ≡ true
 
 -- a name that may be found: kept for the view as a vote or as a commit, and fit
 pub record Candidate (m : List ℕ) (q : Quest) (after : Choice) (x : List ℕ) : Type 0 where
   pub entry : Entry m (voteRow (q .view)) (q .n) x ⊎ Entry m (commitRow (q .view)) (q .n) x
-  pub fit : Fit m q after x
+  pub fit : Fit (decided m q) after x
 
 -- the best so far is there, and x is not less
 pub record Reached (best : Choice) (x : List ℕ) : Type 0 where
@@ -38,20 +38,20 @@ pub record Reached (best : Choice) (x : List ℕ) : Type 0 where
   pub least : lessBytes x (best .name) ≡ false
 
 -- ---- replica i's entry is considered: it is taken, or the best so far stays
-record Takes (m : List ℕ) (row : ℕ) (q : Quest) (after : Choice) (i : ℕ) (best : Choice) : Type 0 where
-  there : has m row i ≡ true
-  fit : Fit m q after (kept m row nameLength i)
-  less : (best .some ≡ false) ⊎ (lessBytes (kept m row nameLength i) (best .name) ≡ true)
-  now : consider m row q after i best ≡ chosen (kept m row nameLength i)
+pub record Takes (m : List ℕ) (row : ℕ) (test : List ℕ → Bool) (after : Choice) (i : ℕ) (best : Choice) : Type 0 where
+  pub there : has m row i ≡ true
+  pub fit : Fit test after (kept m row nameLength i)
+  pub less : (best .some ≡ false) ⊎ (lessBytes (kept m row nameLength i) (best .name) ≡ true)
+  pub now : consider m row test after i best ≡ chosen (kept m row nameLength i)
 
-record Leaves (m : List ℕ) (row : ℕ) (q : Quest) (after : Choice) (i : ℕ) (best : Choice) : Type 0 where
-  reached : has m row i ≡ true → Fit m q after (kept m row nameLength i) → Reached best (kept m row nameLength i)
-  now : consider m row q after i best ≡ best
+pub record Leaves (m : List ℕ) (row : ℕ) (test : List ℕ → Bool) (after : Choice) (i : ℕ) (best : Choice) : Type 0 where
+  pub reached : has m row i ≡ true → Fit test after (kept m row nameLength i) → Reached best (kept m row nameLength i)
+  pub now : consider m row test after i best ≡ best
 
-module _ (m : List ℕ) (row : ℕ) (q : Quest) (after : Choice) where
-  considered : (i : ℕ) (best : Choice) → Takes m row q after i best ⊎ Leaves m row q after i best
+module _ (m : List ℕ) (row : ℕ) (test : List ℕ → Bool) (after : Choice) where
+  pub considered : (i : ℕ) (best : Choice) → Takes m row test after i best ⊎ Leaves m row test after i best
   unfolding consider improves
-  considered i best = go (has m row i) refl (above after x) refl (decided m q x) refl (best .some) refl (lessBytes x (best .name)) refl
+  considered i best = go (has m row i) refl (above after x) refl (test x) refl (best .some) refl (lessBytes x (best .name)) refl
     where
       x : List ℕ
       x = kept m row nameLength i
@@ -60,8 +60,8 @@ module _ (m : List ℕ) (row : ℕ) (q : Quest) (after : Choice) where
       neither true = refl
       neither false = refl
 
-      go : (h : Bool) → has m row i ≡ h → (a : Bool) → above after x ≡ a → (d : Bool) → decided m q x ≡ d → (s : Bool) → best .some ≡ s → (l : Bool) → lessBytes x (best .name) ≡ l
-          → Takes m row q after i best ⊎ Leaves m row q after i best
+      go : (h : Bool) → has m row i ≡ h → (a : Bool) → above after x ≡ a → (d : Bool) → test x ≡ d → (s : Bool) → best .some ≡ s → (l : Bool) → lessBytes x (best .name) ≡ l
+          → Takes m row test after i best ⊎ Leaves m row test after i best
       go false e a f d g s k l r = inr (record { reached = λ t o. absurd (true≢false (sym t ∙ e)); now = rw e })
       go true e false f d g s k l r = inr (record { reached = λ t o. absurd (true≢false (sym (o .higher) ∙ f)); now = rw (e, f) })
       go true e true f false g s k l r = inr (record { reached = λ t o. absurd (true≢false (sym (o .enough) ∙ g)); now = rw (e, f, g, neither (not (best .some) || lessBytes x (best .name))) })
@@ -70,12 +70,12 @@ module _ (m : List ℕ) (row : ℕ) (q : Quest) (after : Choice) where
       go true e true f true g true k false r = inr (record { reached = λ t o. record { some = k; least = r }; now = rw (e, f, g, k, r) })
 
   -- the name that is found is one of those considered
-  pub choose-from : (P : List ℕ → Type 0) (best : Choice) (n : ℕ) → ((x : List ℕ) → Entry m row n x → Fit m q after x → P x) → (best .some ≡ true → P (best .name))
-      → choose m row q after best n .some ≡ true → P (choose m row q after best n .name)
+  pub choose-from : (P : List ℕ → Type 0) (best : Choice) (n : ℕ) → ((x : List ℕ) → Entry m row n x → Fit test after x → P x) → (best .some ≡ true → P (best .name))
+      → choose m row test after best n .some ≡ true → P (choose m row test after best n .name)
   unfolding choose
   choose-from P best zero h b = b
   choose-from P best (suc n) h b =
-      let c = choose m row q after best n in
+      let c = choose m row test after best n in
       let ih = choose-from P best n (λ x e. h x (record { by = e .by; low = omega arith; there = e .there; name = e .name })) b in
       ⊎-elim
       (λ t. rw (t .now) (λ _. h (kept m row nameLength n) (record { by = n; low = omega arith; there = t .there; name = refl }) (t .fit)))
@@ -83,7 +83,7 @@ module _ (m : List ℕ) (row : ℕ) (q : Quest) (after : Choice) where
       (considered n c)
 
   -- what the best so far reaches stays reached
-  consider-still : (i : ℕ) (best : Choice) (y : List ℕ) → Reached best y → Reached (consider m row q after i best) y
+  consider-still : (i : ℕ) (best : Choice) (y : List ℕ) → Reached best y → Reached (consider m row test after i best) y
   consider-still i best y r =
       ⊎-elim
       (λ t. rw (t .now) (record {
@@ -97,28 +97,28 @@ module _ (m : List ℕ) (row : ℕ) (q : Quest) (after : Choice) where
       go true f e = absurd (true≢false (sym (less-trans y (kept m row nameLength i) (best .name) f e) ∙ r .least))
       go false f e = refl
 
-  pub choose-still : (best : Choice) (n : ℕ) (y : List ℕ) → Reached best y → Reached (choose m row q after best n) y
+  pub choose-still : (best : Choice) (n : ℕ) (y : List ℕ) → Reached best y → Reached (choose m row test after best n) y
   unfolding choose
   choose-still best zero y r = r
-  choose-still best (suc n) y r = consider-still n (choose m row q after best n) y (choose-still best n y r)
+  choose-still best (suc n) y r = consider-still n (choose m row test after best n) y (choose-still best n y r)
 
   -- an entry that is fit is reached
-  consider-reach : (i : ℕ) (best : Choice) → has m row i ≡ true → Fit m q after (kept m row nameLength i) → Reached (consider m row q after i best) (kept m row nameLength i)
+  consider-reach : (i : ℕ) (best : Choice) → has m row i ≡ true → Fit test after (kept m row nameLength i) → Reached (consider m row test after i best) (kept m row nameLength i)
   consider-reach i best h f =
       ⊎-elim (λ t. rw (t .now) (record { some = refl; least = less-irrefl (kept m row nameLength i) })) (λ t. rw (t .now) (t .reached h f)) (considered i best)
 
-  pub choose-reach : (best : Choice) (n : ℕ) (y : List ℕ) → Entry m row n y → Fit m q after y → Reached (choose m row q after best n) y
+  pub choose-reach : (best : Choice) (n : ℕ) (y : List ℕ) → Entry m row n y → Fit test after y → Reached (choose m row test after best n) y
   unfolding choose
   choose-reach best zero y e f = absurd (omega arith)
   choose-reach best (suc n) y e f =
       go (eqb (e .by) n) refl (λ d. choose-reach best n y (record { by = e .by; low = omega arith; there = e .there; name = e .name }) f)
     where
-      go : (t : Bool) → eqb (e .by) n ≡ t → ((e .by ≡ n → ⊥) → Reached (choose m row q after best n) y) → Reached (consider m row q after n (choose m row q after best n)) y
+      go : (t : Bool) → eqb (e .by) n ≡ t → ((e .by ≡ n → ⊥) → Reached (choose m row test after best n) y) → Reached (consider m row test after n (choose m row test after best n)) y
       go true p rest =
           let d = eqb-true (e .by) n p in
           let k : kept m row nameLength n ≡ y = ap (kept m row nameLength) (sym d) ∙ e .name in
-          rw (← k) (consider-reach n (choose m row q after best n) (ap (has m row) (sym d) ∙ e .there) (rw k f))
-      go false p rest = consider-still n (choose m row q after best n) y (rest (eqb-false (e .by) n p))
+          rw (← k) (consider-reach n (choose m row test after best n) (ap (has m row) (sym d) ∙ e .there) (rw k f))
+      go false p rest = consider-still n (choose m row test after best n) y (rest (eqb-false (e .by) n p))
 
 -- ---- the next decided name
 module _ (m : List ℕ) (q : Quest) (after : Choice) where
@@ -127,16 +127,16 @@ module _ (m : List ℕ) (q : Quest) (after : Choice) where
   unfolding nextDecided
   next-least y c =
       ⊎-elim
-      (λ e. choose-still m (commitRow (q .view)) q after _ (q .n) y (choose-reach m (voteRow (q .view)) q after noChoice (q .n) y e (c .fit)))
-      (λ e. choose-reach m (commitRow (q .view)) q after _ (q .n) y e (c .fit))
+      (λ e. choose-still m (commitRow (q .view)) (decided m q) after _ (q .n) y (choose-reach m (voteRow (q .view)) (decided m q) after noChoice (q .n) y e (c .fit)))
+      (λ e. choose-reach m (commitRow (q .view)) (decided m q) after _ (q .n) y e (c .fit))
       (c .entry)
 
   -- what is found is a candidate
   pub next-candidate : nextDecided m q after .some ≡ true → Candidate m q after (nextDecided m q after .name)
   unfolding nextDecided
   next-candidate =
-      choose-from m (commitRow (q .view)) q after (Candidate m q after) _ (q .n) (λ x e f. record { entry = inr e; fit = f })
-      (choose-from m (voteRow (q .view)) q after (Candidate m q after) noChoice (q .n) (λ x e f. record { entry = inl e; fit = f }) (λ e. absurd (false≢true e)))
+      choose-from m (commitRow (q .view)) (decided m q) after (Candidate m q after) _ (q .n) (λ x e f. record { entry = inr e; fit = f })
+      (choose-from m (voteRow (q .view)) (decided m q) after (Candidate m q after) noChoice (q .n) (λ x e f. record { entry = inl e; fit = f }) (λ e. absurd (false≢true e)))
 
   -- if none is found there is none
   pub next-none : nextDecided m q after .some ≡ false → (y : List ℕ) → Candidate m q after y → ⊥

@@ -59,12 +59,21 @@ module _ (m : List ℕ) (row : ℕ) (x : List ℕ) where
   tally-bits n h = count-set (tally m row x n .signers) (backs m row x) n h (tally-signers m row x n) (tally-signs n) ∙ sym (tally-counted n)
 
   -- whoever is counted has an entry
-  backs-has : (i : ℕ) → backs m row x i ≡ true → has m row i ≡ true
+  pub backs-has : (i : ℕ) → backs m row x i ≡ true → has m row i ≡ true
   unfolding backs
   backs-has i e = go (has m row i) e
     where
       go : (t : Bool) → (t && sameBytes (kept m row nameLength i) x) ≡ true → t ≡ true
       go true f = refl
+      go false f = absurd (false≢true f)
+
+  -- and for that name
+  pub backs-same : (i : ℕ) → backs m row x i ≡ true → sameBytes (kept m row nameLength i) x ≡ true
+  unfolding backs
+  backs-same i e = go (has m row i) e
+    where
+      go : (t : Bool) → (t && sameBytes (kept m row nameLength i) x) ≡ true → sameBytes (kept m row nameLength i) x ≡ true
+      go true f = f
       go false f = absurd (false≢true f)
 
   pub tally-kept : (n : ℕ) → n ≤ 64 → tally m row x n .count ≤ keptCount m row n

@@ -1,5 +1,6 @@
 -- Choosing among the names of a row, and the timeout certificate formed of a row, as the code goes. Assumes nothing.
 use mathlib.Core.Path.{_≡_, sym, ap, ap₂, _∙_}
+use mathlib.Core.Bool.{Bool}
 use mathlib.Core.List.{List, _++_, append-assoc}
 use Prim.Native.Nat.{ℕ, _+_, _-_}
 use native.Mathlib.Numerals.{add-one}
@@ -14,9 +15,9 @@ use Rattle.memory.specs.declared.decided.Quest.{Quest}
 use Rattle.memory.specs.Decided.{consider, choose}
 
 -- one replica more is considered
-pub choose-on : (m : List ℕ) (row : ℕ) (q : Quest) (after first : Choice) (k : ℕ) {b d : Choice} → b ≡ choose m row q after first k → d ≡ consider m row q after k b → d ≡ choose m row q after first (k + 1)
+pub choose-on : (m : List ℕ) (row : ℕ) (test : List ℕ → Bool) (after first : Choice) (k : ℕ) {b d : Choice} → b ≡ choose m row test after first k → d ≡ consider m row test after k b → d ≡ choose m row test after first (k + 1)
 unfolding choose
-choose-on m row q after first k e f = f ∙ ap (consider m row q after k) e ∙ ap (choose m row q after first) (sym (add-one k))
+choose-on m row test after first k e f = f ∙ ap (consider m row test after k) e ∙ ap (choose m row test after first) (sym (add-one k))
 
 head-before : (sender view : ℕ) (row : List ℕ) → timeoutsHeadBytes sender view (length row) ++ row ≡ timeoutsBytes sender view row
 unfolding timeoutsBytes timeoutsHeadBytes

@@ -2,12 +2,12 @@
 use Prim.Native.Nat.{ℕ, zero, suc}
 use mathlib.Core.Bool.{Bool, true, false, cond, not, _&&_, _||_}
 use mathlib.Core.List.{List}
-use lib.Dec.{leb, ltb}
+use lib.Dec.{leb}
 use Rattle.codec.specs.Names.{nameLength, zeroName, lessBytes}
 use Rattle.memory.specs.declared.decided.Choice.{Choice}
 use Rattle.memory.specs.declared.decided.Quest.{Quest}
 use Rattle.memory.specs.Layout.{voteRow, commitRow}
-use Rattle.memory.specs.Kept.{has, kept, keptCount, tally}
+use Rattle.memory.specs.Kept.{has, kept, tally}
 
 abbrev pub noChoice : Choice
 noChoice = record { some = false; name = zeroName }
@@ -24,29 +24,25 @@ unfoldable pub improves : Choice → Choice → List ℕ → Bool
 improves after best x = above after x && (not (best .some) || lessBytes x (best .name))
 
 module _ (m : List ℕ) where
+  -- enough of the first n replicas have an entry for x in a row
+  abbrev pub backed : ℕ → ℕ → ℕ → List ℕ → Bool
+  backed row n quorum x = leb quorum (tally m row x n .count)
+
   -- enough kept votes, or enough kept commits
   unfoldable pub decided : Quest → List ℕ → Bool
-  decided q x =
-      leb (q .votes) (tally m (voteRow (q .view)) x (q .n) .count)
-      || leb (q .commits) (tally m (commitRow (q .view)) x (q .n) .count)
+  decided q x = backed (voteRow (q .view)) (q .n) (q .votes) x || backed (commitRow (q .view)) (q .n) (q .commits) x
 
-  -- too few kept votes for any name, and too few kept commits
-  unfoldable pub tooFew : Quest → Bool
-  tooFew q =
-      ltb (keptCount m (voteRow (q .view)) (q .n)) (q .votes)
-      && ltb (keptCount m (commitRow (q .view)) (q .n)) (q .commits)
-
-  -- replica i's entry in a row
-  unfoldable pub consider : ℕ → Quest → Choice → ℕ → Choice → Choice
-  consider row q after i best =
+  -- replica i's entry in a row, of those names that pass a test
+  unfoldable pub consider : ℕ → (List ℕ → Bool) → Choice → ℕ → Choice → Choice
+  consider row test after i best =
       let x = kept m row nameLength i in
-      cond (has m row i && (improves after best x && decided q x)) (chosen x) best
+      cond (has m row i && (improves after best x && test x)) (chosen x) best
 
   -- those of the first k replicas, from the best so far on
-  unfoldable pub choose : ℕ → Quest → Choice → Choice → ℕ → Choice
-  choose row q after best zero = best
-  choose row q after best (suc k) = consider row q after k (choose row q after best k)
+  unfoldable pub choose : ℕ → (List ℕ → Bool) → Choice → Choice → ℕ → Choice
+  choose row test after best zero = best
+  choose row test after best (suc k) = consider row test after k (choose row test after best k)
 
   -- the least decided name above a bound, of all that are kept for the view
   unfoldable pub nextDecided : Quest → Choice → Choice
-  nextDecided q after = choose (commitRow (q .view)) q after (choose (voteRow (q .view)) q after noChoice (q .n)) (q .n)
+  nextDecided q after = choose (commitRow (q .view)) (decided q) after (choose (voteRow (q .view)) (decided q) after noChoice (q .n)) (q .n)

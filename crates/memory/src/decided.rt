@@ -9,10 +9,12 @@ use codec::name::less;
 use codec::name_at;
 ghost use mathlib.Core.Path.{_≡_};
 ghost use Prim.Native.Nat.{_+_, _≤_, _<_};
+ghost use lib.Dec.{leb};
 ghost use lib.ListN.{length};
 ghost use Rattle.settings.specs.Quorum.{largest};
 ghost use Rattle.memory.specs.Layout.{memoryLength, rowSize};
-ghost use Rattle.memory.specs.Decided.{tooFew, above, improves, decided, consider, choose, nextDecided};
+ghost use Rattle.memory.specs.Kept.{keptCount};
+ghost use Rattle.memory.specs.Decided.{above, improves, backed, consider, choose, nextDecided};
 
 // A name, or none.
 pub struct Choice {
@@ -53,22 +55,27 @@ fn improves(after: Choice, best: Choice, name: [u8; 32]) -> bool
     true
 }
 
-fn decided(mem: &[u8], q: Quest, name: [u8; 32]) -> bool
-    requires { ⌜ (memoryLength ≤ length (now mem)) × (q .n ≤ largest) ⌝ }
-    ensures { λ r. ⌜ r ≡ decided (now (mem .entry)) q name ⌝ }
+// Enough of the first n replicas back a name in a row.
+fn backed(mem: &[u8], row: usize, n: usize, quorum: u64, name: [u8; 32]) -> bool
+    requires { ⌜ (memoryLength ≤ length (now mem)) × ((row + rowSize 32 ≤ memoryLength) × (n ≤ largest)) ⌝ }
+    ensures { λ r. ⌜ r ≡ backed (now (mem .entry)) row n quorum name ⌝ }
 {
-    let votes = count_backers(mem, vote_row(q.view), name, q.n);
-    if q.votes <= votes.count {
-        return true;
-    }
-    let commits = count_backers(mem, commit_row(q.view), name, q.n);
-    q.commits <= commits.count
+    let t = count_backers(mem, row, name, n);
+    quorum <= t.count
 }
 
-// Replica i's entry in a row, if it has one that improves.
-fn consider(mem: &[u8], row: usize, q: Quest, after: Choice, best: Choice, i: usize) -> Choice
-    requires { ⌜ (memoryLength ≤ length (now mem)) × ((row + rowSize 32 ≤ memoryLength) × ((q .n ≤ largest) × (i < largest))) ⌝ }
-    ensures { λ r. ⌜ r ≡ consider (now (mem .entry)) row q after i best ⌝ }
+// Replica i's entry in a row, if it has one that improves and is backed.
+fn consider(
+    mem: &[u8],
+    row: usize,
+    n: usize,
+    quorum: u64,
+    after: Choice,
+    best: Choice,
+    i: usize,
+) -> Choice
+    requires { ⌜ (memoryLength ≤ length (now mem)) × ((row + rowSize 32 ≤ memoryLength) × ((n ≤ largest) × (i < largest))) ⌝ }
+    ensures { λ r. ⌜ r ≡ consider (now (mem .entry)) row (backed (now (mem .entry)) row n quorum) after i best ⌝ }
 {
     if !has(mem, row, i as u64) {
         return best;
@@ -77,49 +84,51 @@ fn consider(mem: &[u8], row: usize, q: Quest, after: Choice, best: Choice, i: us
     if !improves(after, best, name) {
         return best;
     }
-    if decided(mem, q, name) {
+    if backed(mem, row, n, quorum, name) {
         return Choice { some: true, name };
     }
     best
 }
 
-fn choose(mem: &[u8], row: usize, q: Quest, after: Choice, first: Choice) -> Choice
-    requires { ⌜ (memoryLength ≤ length (now mem)) × ((row + rowSize 32 ≤ memoryLength) × (q .n ≤ largest)) ⌝ }
-    ensures { λ r. ⌜ r ≡ choose (now (mem .entry)) row q after first (q .n) ⌝ }
+// So many replicas have an entry behind the first i that these alone could still be a quorum.
+fn more_to_see(mem: &[u8], row: usize, n: usize, quorum: u64, i: usize) -> bool
+    requires { ⌜ (memoryLength ≤ length (now mem)) × ((row + rowSize 32 ≤ memoryLength) × ((n ≤ largest) × (i ≤ n))) ⌝ }
+    ensures { λ r. ⌜ r ≡ leb (quorum + keptCount (now (mem .entry)) row i) (keptCount (now (mem .entry)) row n) ⌝ }
 {
-    let n = q.n;
+    let seen = kept_count(mem, row, i as u64);
+    let all = kept_count(mem, row, n as u64);
+    if all < seen {
+        return false;
+    }
+    quorum <= all - seen
+}
+
+// A name that a quorum backs stands among the first entries, so the search ends where those left over are too few for a quorum.
+fn choose(mem: &[u8], row: usize, n: usize, quorum: u64, after: Choice, first: Choice) -> Choice
+    requires { ⌜ (memoryLength ≤ length (now mem)) × ((row + rowSize 32 ≤ memoryLength) × (n ≤ largest)) ⌝ }
+    ensures { λ r. ⌜ r ≡ choose (now (mem .entry)) row (backed (now (mem .entry)) row n quorum) after first n ⌝ }
+{
     let mut best = first;
     let mut i = 0;
     while i < n {
-        best = consider(mem, row, q, after, best, i);
+        if !more_to_see(mem, row, n, quorum, i) {
+            return best;
+        }
+        best = consider(mem, row, n, quorum, after, best, i);
         i += 1;
     }
     best
 }
 
-// So few replicas have a vote, and so few a commit, that no name can be decided.
-fn too_few(mem: &[u8], q: Quest) -> bool
-    requires { ⌜ (memoryLength ≤ length (now mem)) × (q .n ≤ largest) ⌝ }
-    ensures { λ r. ⌜ r ≡ tooFew (now (mem .entry)) q ⌝ }
-{
-    if q.votes <= kept_count(mem, vote_row(q.view), q.n as u64) {
-        return false;
-    }
-    kept_count(mem, commit_row(q.view), q.n as u64) < q.commits
-}
-
-// The least decided name above a bound. A view with few entries is passed over at once.
+// The least decided name above a bound. Each row is searched for its own quorum: a name with enough commits has an entry among the commits.
 pub fn next_decided(mem: &[u8], q: Quest, after: Choice) -> Choice
-    requires { ⌜ (memoryLength ≤ length (now mem)) × (q .n ≤ largest) ⌝ }
+    requires { ⌜ (memoryLength ≤ length (now mem)) × ((q .n ≤ largest) × ((1 ≤ q .votes) × (1 ≤ q .commits))) ⌝ }
     ensures { λ r. ⌜ r ≡ nextDecided (now (mem .entry)) q after ⌝ }
 {
     let none = Choice {
         some: false,
         name: [0u8; 32],
     };
-    if too_few(mem, q) {
-        return none;
-    }
-    let voted = choose(mem, vote_row(q.view), q, after, none);
-    choose(mem, commit_row(q.view), q, after, voted)
+    let voted = choose(mem, vote_row(q.view), q.n, q.votes, after, none);
+    choose(mem, commit_row(q.view), q.n, q.commits, after, voted)
 }

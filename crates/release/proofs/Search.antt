@@ -7,7 +7,8 @@ use mathlib.Core.List.{List}
 use borrow.Author.Tests.{lt-ltb}
 use lib.Dec.{ltb}
 use lib.ListN.{take}
-use Rattle.settings.specs.Quorum.{largest, lastView}
+use Rattle.settings.specs.declared.Settings.{Settings}
+use Rattle.settings.specs.Quorum.{largest, lastView, fastQuorum, slowQuorum}
 use Rattle.blocks.specs.declared.Block.{Block}
 use Rattle.blocks.specs.declared.Found.{Found}
 use Rattle.blocks.specs.Store.{held, descends}
@@ -154,3 +155,10 @@ pub target-standing : (W : Work) → lowestTarget W ≡ lowestTarget (standing (
 unfolding targetOf lowestTarget
 target-standing W =
     rw (pair-bare (lowest (viewNow W)) (ballotViews W) W, pair-bare (lowest (viewNow W)) (ballotViews W) (standing (W .counters) (W .memory) (W .store))) refl
+
+-- ---- no quorum is empty
+pub some-fast : (s : Settings) {z : ℕ} → z ≡ fastQuorum s → 1 ≤ z
+some-fast s e = omega (arith, e)
+
+pub some-slow : (s : Settings) {z : ℕ} → z ≡ slowQuorum s → 1 ≤ z
+some-slow s e = omega (arith, e)

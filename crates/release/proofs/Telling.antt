@@ -4,7 +4,7 @@ use native.Mathlib.Omega.{arith}
 use mathlib.Core.Path.{_≡_, refl, sym, ap, _∙_}
 use mathlib.Core.Bool.{Bool, true, false, cond}
 use mathlib.Core.Logic.{_⊎_, inl, inr}
-use mathlib.Core.List.{List, [], _∷_, _++_, append-nil, append-assoc}
+use mathlib.Core.List.{List, [], _∷_, _++_, append-assoc}
 use borrow.Author.Tests.{lt-ltb, le-ltb, ltb-true, ltb-false}
 use lib.Dec.{ltb}
 use lib.ListN.{length, length-append}
@@ -19,7 +19,7 @@ use Rattle.wire.proofs.Lengths.{length-header}
 use Rattle.blocks.specs.declared.Block.{Block}
 use Rattle.blocks.specs.Store.{descends, ancestry, releases}
 use Rattle.blocks.proofs.Linked.{Linked, ancestry-linked, ancestry-last}
-use Rattle.blocks.proofs.Releases.{name-size}
+use Rattle.blocks.proofs.Releases.{name-size, length-release, releases-more}
 use Rattle.blocks.proofs.Types.{Blockᴰ, Block-name, Block-parent, Block-height, Height-0}
 use Rattle.release.specs.Released.{lastReleased, Told}
 
@@ -78,17 +78,6 @@ below p b (d ∷ pre) l = go (below d b pre (l .1))
     go : Below d b pre → Below p b (d ∷ pre)
     go (inl e) = inr ([], (d, (ap (λ (z : List Block). d ∷ z) (e .0), e .1)))
     go (inr e) = inr (d ∷ e .0, (e .1 .0, (ap (λ (z : List Block). d ∷ z) (e .1 .1 .0), e .1 .1 .1)))
-
-length-release : (sender view : ℕ) (name : List ℕ) (height : ℕ) → length name ≡ 32 → length (releaseBytes sender view name height) ≡ 56
-unfolding releaseBytes
-length-release sender view name height e = simp (length-append, length-header, length-leBytes, e)
-
-releases-more : (sender view : ℕ) (row : List Block) (b : Block) → releases sender view (row ++ (b ∷ [])) ≡ releases sender view row ++ releaseBytes sender view (b .name) (b .height .0)
-unfolding releases joined
-releases-more sender view [] b = append-nil _
-releases-more sender view (a ∷ row) b =
-    ap (λ (l : List ℕ). releaseBytes sender view (a .name) (a .height .0) ++ l) (releases-more sender view row b)
-    ∙ sym (append-assoc (releaseBytes sender view (a .name) (a .height .0)) (releases sender view row) (releaseBytes sender view (b .name) (b .height .0)))
 
 -- ---- a row that ends at b, written from place at on: what lies below b first, and then b
 module _ (o : List ℕ) (at sender view : ℕ) (pre : List Block) (b : Block) (size : length (b .name) ≡ nameLength) (all : length (releases sender view (pre ++ (b ∷ []))) ≡ releaseLength * length (pre ++ (b ∷ [])))

@@ -4,9 +4,9 @@ use native.Mathlib.Nat.{add-zero}
 use native.Mathlib.Numerals.{add-one}
 use native.Mathlib.Omega.{arith}
 use mathlib.Core.Path.{_≡_, refl, sym, ap, _∙_}
-use mathlib.Core.Bool.{Bool, true, false}
+use mathlib.Core.Bool.{Bool, true, false, cond, _&&_}
 use mathlib.Core.List.{List, []}
-use borrow.Author.Tests.{lt-ltb, le-ltb, le-leb, lt-leb}
+use borrow.Author.Tests.{lt-ltb, le-ltb, le-leb, lt-leb, ne-eqb}
 use lib.Dec.{leb}
 use lib.ListN.{length}
 use Rattle.settings.specs.declared.Settings.{Settings}
@@ -20,18 +20,19 @@ use Rattle.wire.specs.Fit.{IsName, IsU16, IsU64}
 use Rattle.certificate.specs.declared.Locks.{Locks}
 use Rattle.certificate.specs.Rank.{blockCertificate, outranks}
 use Rattle.certificate.specs.Safe.{safeCertificate}
+use Rattle.blocks.specs.declared.Block.{Block}
 use Rattle.memory.specs.Layout.{entryRoom, voteRow, timeoutRow, settingsOf, ownOf}
 use Rattle.memory.specs.declared.kept.Tally.{Tally}
 use Rattle.memory.specs.declared.decided.Choice.{Choice}
 use Rattle.memory.specs.Decided.{noChoice, nextDecided}
 use Rattle.counters.specs.declared.Counters.{Counters}
-use Rattle.counters.specs.Counters.{locksOf, adopting}
+use Rattle.counters.specs.Counters.{locksOf, adopting, certificateOf as lockOf}
 use Rattle.memory.specs.Kept.{keptCount, tally}
 use Rattle.memory.specs.Formed.{formed}
 use Rattle.protocol.specs.Work.{sendTimeout}
 use Rattle.protocol.specs.Refusals.{viewOfProgress}
 use Rattle.protocol.specs.Events.{progress}
-use Rattle.protocol.specs.Rules.{ruleA, ruleB, ruleC}
+use Rattle.protocol.specs.Rules.{ruleA, ruleB, ruleC, formedBlock}
 use Rattle.protocol.proofs.Forms.{form-view, formed-form, block-kind, block-form, tally-u64}
 use Rattle.protocol.proofs.FormedRead.{formed-read, formed-fits, block-read}
 use Rattle.act.specs.declared.Draft.{Draft}
@@ -215,6 +216,23 @@ module _ (d : Draft) (m o : List ℕ) (v : ℕ) (l : d .at ≤ length o) {x : Ch
         does-same (formsBlock v (x .name)) (ruleC v)
         (λ s. rw e (sym (rw (some-is true h, outranks-is, f)))) a
 
+-- below the lock's view
+lower-view : (v : ℕ) (x : List ℕ) (c : Counters) → v < c .lock .view .0 → outranks (blockCertificate v x 0) (locksOf c .lock) ≡ false
+unfolding outranks locksOf lockOf
+lower-view v x c h = rw (ne-eqb v (c .lock .view .0) (λ e. absurd (omega (arith, h, e))), le-ltb (c .lock .view .0) v (omega (arith, h))) refl
+
+pub C-below : (d : Draft) (m o : List ℕ) (v : ℕ) → d .at ≤ length o → v < d .counters .lock .view .0 → Does (ruleC v) d m o d m o
+unfolding ruleC
+C-below d m o v l h = does-stay (ruleC v) d m o l (λ s. rw (lower-view v (nextDecided m (votesWanted m v) noChoice .name) (d .counters) h) (go (nextDecided m (votesWanted m v) noChoice .some) s))
+  where
+    go : (t : Bool) (s : List Block) → cond (t && false) (progress (formedBlock v (workOf d m o s) (nextDecided m (votesWanted m v) noChoice .name)) (workOf d m o s)) (workOf d m o s) ≡ workOf d m o s
+    go true s = refl
+    go false s = refl
+
 pub voted-is : (m : List ℕ) (v : ℕ) {s : Settings} {n z : ℕ} {x : Choice} → s ≡ settingsOf m → n ≡ replicas s → z ≡ blockQuorum s
     → x ≡ nextDecided m (record { view = v; n = n; votes = z; commits = n + 1 }) noChoice → x ≡ nextDecided m (votesWanted m v) noChoice
 voted-is m v {n = n} {z = z} e q b x = x ∙ ap (λ (k : ℕ). nextDecided m (record { view = v; n = n; votes = z; commits = k }) noChoice) (add-one n) ∙ rw (q, b, e)
+
+-- a quorum is never empty
+pub some-quorum : (s : Settings) {z : ℕ} → z ≡ blockQuorum s → 1 ≤ z
+some-quorum s e = omega (arith, e)

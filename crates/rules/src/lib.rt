@@ -130,8 +130,8 @@ fn form_block(mem: &mut [u8], out: &mut [u8], d: Draft, view: u64, name: [u8; 32
     act_on(mem, out, d, 56)
 }
 
-// Rule C at a view: enough votes are kept for a name, and its certificate outranks the lock.
-pub fn rule_c(mem: &mut [u8], out: &mut [u8], d: Draft, view: u64) -> Draft
+// A name that enough kept votes back, if its certificate outranks the lock.
+fn certify(mem: &mut [u8], out: &mut [u8], d: Draft, view: u64) -> Draft
     requires { ⌜ Ready d (now mem) (now out) 104 × (view < lastView) ⌝ }
     ensures { λ r. ⌜ Does (ruleC view) d (now (mem .entry)) (now (out .entry)) r (now (mem .exit)) (now (out .exit)) ⌝ }
 {
@@ -153,4 +153,17 @@ pub fn rule_c(mem: &mut [u8], out: &mut [u8], d: Draft, view: u64) -> Draft
         return d;
     }
     form_block(mem, out, d, view, name)
+}
+
+// Rule C at a view: enough votes are kept for a name, and its certificate outranks the lock. Below the lock's view none does.
+pub fn rule_c(mem: &mut [u8], out: &mut [u8], d: Draft, view: u64) -> Draft
+    requires { ⌜ Ready d (now mem) (now out) 104 × (view < lastView) ⌝ }
+    ensures { λ r. ⌜ Does (ruleC view) d (now (mem .entry)) (now (out .entry)) r (now (mem .exit)) (now (out .exit)) ⌝ }
+{
+    let c = d.counters;
+    let lock = c.lock;
+    if view < lock.view.0 {
+        return d;
+    }
+    certify(mem, out, d, view)
 }

@@ -1,3 +1,4 @@
+use Rattle.release.proofs.Search.{some-fast, some-slow}
 use Rattle.release.specs.Search.{lookOf}
 use borrow.Author.Needs.{needs}
 use native.Mathlib.Omega.{arith}
@@ -25,7 +26,7 @@ slow-quorum-requires : tie.Need-slow-quorum-requires
 slow-quorum-requires c κs = search needs
 
 next-decided-requires : tie.Need-next-decided-requires
-next-decided-requires c κs = (c .before .before .before .before .before .before .pre .0, rw (c .before .before .before .n .ensures, c .before .before .before .before .settings .ensures) (c .before .before .before .before .before .before .pre .1))
+next-decided-requires c κs = (c .before .before .before .before .before .before .pre .0, (rw (c .before .before .before .n .ensures, c .before .before .before .before .settings .ensures) (c .before .before .before .before .before .before .pre .1), (some-fast _ (c .before .fast-quorum .ensures), some-slow (c .before .before .before .before .settings .result) (c .slow-quorum .ensures))))
 
 entries-asked-requires : tie.Need-entries-asked-requires
 entries-asked-requires c κs = search needs

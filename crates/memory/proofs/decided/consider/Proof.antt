@@ -7,7 +7,7 @@ use borrow.Author.Needs.{needs}
 use Rattle.memory.proofs.decided.consider.Statement.{statement}
 use Rattle.memory.proofs.decided.consider.Tie as tie
 use Rattle.codec.proofs.name_at.Reads as name-at-reads
-use Rattle.memory.proofs.decided.decided.Reads as decided-reads
+use Rattle.memory.proofs.decided.backed.Reads as backed-reads
 use Rattle.memory.proofs.decided.improves.Reads as improves-reads
 use Rattle.memory.proofs.kept.entry_at.Reads as entry-at-reads
 use Rattle.memory.proofs.kept.has.Reads as has-reads
@@ -34,20 +34,20 @@ returns-2 c = let e : c .before .before .before .before .before .has .result ≡
     let f : c .before .improves .result ≡ false = not-true _ (c .if2 .taken) in
     rw (← c .before .before .before .before .before .has .ensures, e, ← c .before .before .before .entry-at .ensures, ← c .before .before .name-at .ensures, ← c .before .improves .ensures, f)
 
-decided-requires : tie.Need-decided-requires
-decided-requires c κs = search needs
+backed-requires : tie.Need-backed-requires
+backed-requires c κs = search needs
 
 returns-3 : tie.Need-returns-3
 unfolding consider kept
 returns-3 c = let e : c .before .before .before .before .before .before .before .has .result ≡ true = not-false _ (c .before .before .before .before .before .before .if1 .left) in
     let f : c .before .before .before .improves .result ≡ true = not-false _ (c .before .before .if2 .left) in
-    rw (← c .before .before .before .before .before .before .before .has .ensures, e, ← c .before .before .before .before .before .entry-at .ensures, ← c .before .before .before .before .name-at .ensures, ← c .before .before .before .improves .ensures, f, ← c .before .decided .ensures, c .if3 .taken)
+    rw (← c .before .before .before .before .before .before .before .has .ensures, e, ← c .before .before .before .before .before .entry-at .ensures, ← c .before .before .before .before .name-at .ensures, ← c .before .before .before .improves .ensures, f, ← c .before .backed .ensures, c .if3 .taken)
 
 returns-4 : tie.Need-returns-4
 unfolding consider kept
 returns-4 c = let e : c .before .before .before .before .before .before .before .has .result ≡ true = not-false _ (c .before .before .before .before .before .before .if1 .left) in
     let f : c .before .before .before .improves .result ≡ true = not-false _ (c .before .before .if2 .left) in
-    rw (← c .before .before .before .before .before .before .before .has .ensures, e, ← c .before .before .before .before .before .entry-at .ensures, ← c .before .before .before .before .name-at .ensures, ← c .before .before .before .improves .ensures, f, ← c .before .decided .ensures, c .if3 .left)
+    rw (← c .before .before .before .before .before .before .before .has .ensures, e, ← c .before .before .before .before .before .entry-at .ensures, ← c .before .before .before .before .name-at .ensures, ← c .before .before .before .improves .ensures, f, ← c .before .backed .ensures, c .if3 .left)
 
 pub consider-spec : {M : Type 1} → statement M
 consider-spec =
@@ -59,6 +59,6 @@ consider-spec =
     name-at-requires
     improves-requires
     returns-2
-    decided-requires
+    backed-requires
     returns-3
     returns-4)
