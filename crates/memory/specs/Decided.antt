@@ -2,12 +2,12 @@
 use Prim.Native.Nat.{ℕ, zero, suc}
 use mathlib.Core.Bool.{Bool, true, false, cond, not, _&&_, _||_}
 use mathlib.Core.List.{List}
-use lib.Dec.{leb}
+use lib.Dec.{leb, ltb}
 use Rattle.codec.specs.Names.{nameLength, zeroName, lessBytes}
 use Rattle.memory.specs.declared.decided.Choice.{Choice}
 use Rattle.memory.specs.declared.decided.Quest.{Quest}
 use Rattle.memory.specs.Layout.{voteRow, commitRow}
-use Rattle.memory.specs.Kept.{has, kept, tally}
+use Rattle.memory.specs.Kept.{has, kept, keptCount, tally}
 
 abbrev pub noChoice : Choice
 noChoice = record { some = false; name = zeroName }
@@ -31,6 +31,10 @@ module _ (m : List ℕ) where
   -- enough kept votes, or enough kept commits
   unfoldable pub decided : Quest → List ℕ → Bool
   decided q x = backed (voteRow (q .view)) (q .n) (q .votes) x || backed (commitRow (q .view)) (q .n) (q .commits) x
+
+  -- too few kept votes for any name, and too few kept commits
+  unfoldable pub tooFew : Quest → Bool
+  tooFew q = ltb (keptCount m (voteRow (q .view)) (q .n)) (q .votes) && ltb (keptCount m (commitRow (q .view)) (q .n)) (q .commits)
 
   -- replica i's entry in a row, of those names that pass a test
   unfoldable pub consider : ℕ → (List ℕ → Bool) → Choice → ℕ → Choice → Choice

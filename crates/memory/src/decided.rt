@@ -14,7 +14,7 @@ ghost use lib.ListN.{length};
 ghost use Rattle.settings.specs.Quorum.{largest};
 ghost use Rattle.memory.specs.Layout.{memoryLength, rowSize};
 ghost use Rattle.memory.specs.Kept.{keptCount};
-ghost use Rattle.memory.specs.Decided.{above, improves, backed, consider, choose, nextDecided};
+ghost use Rattle.memory.specs.Decided.{tooFew, above, improves, backed, consider, choose, nextDecided};
 
 // A name, or none.
 pub struct Choice {
@@ -120,7 +120,19 @@ fn choose(mem: &[u8], row: usize, n: usize, quorum: u64, after: Choice, first: C
     best
 }
 
-// The least decided name above a bound. Each row is searched for its own quorum: a name with enough commits has an entry among the commits.
+// So few replicas have a vote, and so few a commit, that no name can be decided.
+pub fn too_few(mem: &[u8], q: Quest) -> bool
+    requires { ⌜ (memoryLength ≤ length (now mem)) × (q .n ≤ largest) ⌝ }
+    ensures { λ r. ⌜ r ≡ tooFew (now (mem .entry)) q ⌝ }
+{
+    if q.votes <= kept_count(mem, vote_row(q.view), q.n as u64) {
+        return false;
+    }
+    kept_count(mem, commit_row(q.view), q.n as u64) < q.commits
+}
+
+// The least decided name above a bound. A view with few entries is passed over at once; each row is searched for its own quorum, since a name with
+// enough commits has an entry among the commits.
 pub fn next_decided(mem: &[u8], q: Quest, after: Choice) -> Choice
     requires { ⌜ (memoryLength ≤ length (now mem)) × ((q .n ≤ largest) × ((1 ≤ q .votes) × (1 ≤ q .commits))) ⌝ }
     ensures { λ r. ⌜ r ≡ nextDecided (now (mem .entry)) q after ⌝ }
@@ -129,6 +141,9 @@ pub fn next_decided(mem: &[u8], q: Quest, after: Choice) -> Choice
         some: false,
         name: [0u8; 32],
     };
+    if too_few(mem, q) {
+        return none;
+    }
     let voted = choose(mem, vote_row(q.view), q.n, q.votes, after, none);
     choose(mem, commit_row(q.view), q.n, q.commits, after, voted)
 }

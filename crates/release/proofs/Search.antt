@@ -8,18 +8,19 @@ use borrow.Author.Tests.{lt-ltb}
 use lib.Dec.{ltb}
 use lib.ListN.{take}
 use Rattle.settings.specs.declared.Settings.{Settings}
-use Rattle.settings.specs.Quorum.{largest, lastView, fastQuorum, slowQuorum}
+use Rattle.settings.specs.Quorum.{largest, lastView, replicas, fastQuorum, slowQuorum}
 use Rattle.blocks.specs.declared.Block.{Block}
 use Rattle.blocks.specs.declared.Found.{Found}
 use Rattle.blocks.specs.Store.{held, descends}
 use Rattle.memory.specs.declared.decided.Choice.{Choice}
-use Rattle.memory.specs.Layout.{blockCountOf}
+use Rattle.memory.specs.Layout.{settingsOf, blockCountOf}
 use Rattle.memory.specs.Window.{lowest, highest}
-use Rattle.memory.specs.Decided.{noChoice, nextDecided}
+use Rattle.memory.specs.Decided.{noChoice, nextDecided, tooFew}
+use Rattle.memory.proofs.Passing.{few-none}
 use Rattle.counters.specs.declared.Counters.{Counters}
 use Rattle.protocol.specs.Work.{Work, n, viewNow, tip, blocks, heldBlock}
 use Rattle.protocol.specs.Rules.{tries, enoughToRelease, releasable, Pair, lowestPair, ballotViews}
-use Rattle.release.specs.Search.{standing, seen, target, pairFrom, targetOf, targetFrom, lowestTarget, firstPlace, lookOf, goesTo, endsWith, nextView, nextName, stepOf, stepsLeft}
+use Rattle.release.specs.Search.{standing, seen, target, pairFrom, targetOf, targetFrom, lowestTarget, firstPlace, questOf, lookOf, goesTo, endsWith, nextView, nextName, stepOf, atNextView, passing, passed, stepsLeft}
 use Rattle.release.specs.declared.Place.{Place}
 use Rattle.release.specs.declared.Look.{Look}
 use Rattle.release.specs.declared.Step.{Step}
@@ -116,6 +117,65 @@ stepped tip m entries p l b down s e₀ e₁ e₂ e₃ = go (l .some) refl
         let n : l .count ≡ blockCountOf m = ap (λ (z : Look). z .count) e₀ ∙ count-all m p (sym (ap (λ (z : Look). z .some) e₀) ∙ h) in
         let e-b : b ≡ c = e₁ ∙ ap (λ (k : ℕ). held tip (take k entries) (l .name)) n in
         is (rw (e₂, n, e-b) refl)
+
+-- ---- VIEWS THAT ARE PASSED OVER
+-- the search from q is the search from p, and no longer
+pub record Passes (p : Place) (W : Work) (q : Place) : Type 0 where
+  pub same : targetFrom q W ≡ targetFrom p W
+  pub steps : stepsLeft q ≤ stepsLeft p
+  pub within : q .view + q .views ≡ p .view + p .views
+
+module _ (W : Work) (small : n W ≤ largest) where
+  one-passed : (p : Place) → tooFew (W .memory) (questOf (W .memory) (p .view)) ≡ true → 1 ≤ p .views → Passes p W (atNextView (W .memory) p)
+  unfolding targetFrom stepsLeft nextView
+  one-passed p few more =
+      let a : Choice = record { some = p .some; name = p .name } in
+      let none : nextDecided (W .memory) (enoughToRelease (p .view) W) a ≡ noChoice = few-none (W .memory) (questOf (W .memory) (p .view)) small few a in
+      let f = view-ends (p .view) a (p .views) (p .tries) W (none-found (p .view) a W (p .views) (p .tries) (ap (λ (z : Choice). z .some) none)) in
+      let goes : nextView p (tries W) ≡ goesTo (atNextView (W .memory) p) = rw (lt-ltb 0 (p .views) more) refl in
+      record {
+        same = sym (f .on (ap (λ (z : Step). z .goes) goes) ∙ ap (λ (z : Step). targetOf (pairFrom (z .place) W) W) goes);
+        steps = omega (arith, small, more);
+        within = omega (arith, more);
+      }
+
+  pub views-passed : (k : ℕ) (p : Place) → k ≤ p .views → Passes p W (passing k (W .memory) p)
+  unfolding passing
+  views-passed zero p h = record { same = refl; steps = omega arith; within = refl }
+  views-passed (suc k) p h = go (tooFew (W .memory) (questOf (W .memory) (p .view))) refl (views-passed k (atNextView (W .memory) p) (omega (arith, h)))
+    where
+      go : (t : Bool) → tooFew (W .memory) (questOf (W .memory) (p .view)) ≡ t → Passes (atNextView (W .memory) p) W (passing k (W .memory) (atNextView (W .memory) p))
+          → Passes p W (cond t (passing k (W .memory) (atNextView (W .memory) p)) p)
+      go false e r = record { same = refl; steps = omega arith; within = refl }
+      go true e r =
+          let o = one-passed p e (omega (arith, h)) in
+          record { same = r .same ∙ o .same; steps = omega (arith, r .steps, o .steps); within = r .within ∙ o .within }
+
+-- as the code takes it
+pub passes : (tip : Block) (m : List ℕ) (entries : List Block) (p q : Place) → replicas (settingsOf m) ≤ largest → q ≡ passed m p → Passes p (seen tip m entries) q
+unfolding passed
+passes tip m entries p q small e = rw e (views-passed (seen tip m entries) small (p .views) p (omega arith))
+
+-- the loop: what is left to pass stays the same
+pub pass-on : (m : List ℕ) (p : Place) → 1 ≤ p .views → tooFew m (questOf m (p .view)) ≡ true → passed m (atNextView m p) ≡ passed m p
+unfolding passed passing
+pass-on m p h few = go (p .views) refl h
+  where
+    go : (k : ℕ) → p .views ≡ k → 1 ≤ k → passing (p .views - 1) m (atNextView m p) ≡ passing (p .views) m p
+    go zero e l = absurd (omega (arith, l))
+    go (suc k) e l = let f : suc k - 1 ≡ k = omega arith in rw (e, f, few) refl
+
+pub pass-stop : (m : List ℕ) (p : Place) → tooFew m (questOf m (p .view)) ≡ false → p ≡ passed m p
+unfolding passed passing
+pass-stop m p few = go (p .views)
+  where
+    go : (k : ℕ) → p ≡ passing k m p
+    go zero = refl
+    go (suc k) = rw few refl
+
+pub pass-end : (m : List ℕ) (p : Place) → p .views ≤ 0 → p ≡ passed m p
+unfolding passed passing
+pass-end m p h = let e : p .views ≡ 0 = omega (arith, h) in rw e refl
 
 -- ---- WHERE IT BEGINS
 pub first-within : (v : ℕ) (m : List ℕ) → v ≤ lastView → firstPlace v m .view + firstPlace v m .views < 2 ^ 63

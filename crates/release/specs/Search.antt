@@ -1,5 +1,5 @@
 -- The search for what rule D releases, step by step: a place in `releasable` and `lowestPair` of protocol, and what follows from it. Assumes nothing.
-use Prim.Native.Nat.{ℕ, suc, _+_, _-_, _*_}
+use Prim.Native.Nat.{ℕ, zero, suc, _+_, _-_, _*_}
 use mathlib.Core.Bool.{Bool, true, false, cond, _&&_}
 use mathlib.Core.List.{List, []}
 use lib.Dec.{ltb}
@@ -13,7 +13,7 @@ use Rattle.memory.specs.declared.decided.Choice.{Choice}
 use Rattle.memory.specs.declared.decided.Quest.{Quest}
 use Rattle.memory.specs.Layout.{settingsOf, blockCountOf}
 use Rattle.memory.specs.Window.{lowest, highest}
-use Rattle.memory.specs.Decided.{nextDecided}
+use Rattle.memory.specs.Decided.{nextDecided, tooFew}
 use Rattle.counters.specs.declared.Counters.{Counters}
 use Rattle.counters.specs.declared.Signed.{Signed}
 use Rattle.protocol.specs.Work.{Work, view, viewNow, heldBlock}
@@ -110,6 +110,18 @@ stepOf p l b down =
     cond (l .some && ltb 0 (p .tries))
     (cond (b .is && down) (endsWith p (target (p .view) (b .block))) (nextName p l))
     (nextView p (l .tries))
+
+-- ---- views with too few votes and commits are passed over
+abbrev pub atNextView : List ℕ → Place → Place
+atNextView m p = record { view = p .view + 1; some = false; name = zeroName; views = p .views - 1; tries = triesOf m }
+
+unfoldable pub passing : ℕ → List ℕ → Place → Place
+passing zero m p = p
+passing (suc k) m p = cond (tooFew m (questOf m (p .view))) (passing k m (atNextView m p)) p
+
+-- at most the views that come after it
+unfoldable pub passed : List ℕ → Place → Place
+passed m p = passing (p .views) m p
 
 -- so many steps are left at most: it falls with each
 unfoldable pub stepsLeft : Place → ℕ

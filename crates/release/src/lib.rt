@@ -12,6 +12,7 @@ use memory::block_count;
 use memory::decided::Choice;
 use memory::decided::Quest;
 use memory::decided::next_decided;
+use memory::decided::too_few;
 use memory::own;
 use memory::put_block_count;
 use memory::settings;
@@ -26,11 +27,12 @@ ghost use lib.ListN.{length, take};
 ghost use Rattle.settings.specs.Quorum.{largest, replicas};
 ghost use Rattle.wire.specs.Fields.{releaseLength};
 ghost use Rattle.memory.specs.Layout.{memoryLength, settingsOf, blockCountOf, withBlockCount};
+ghost use Rattle.memory.specs.Decided.{tooFew};
 ghost use Rattle.protocol.specs.Refusals.{storeLength, regular};
 ghost use Rattle.protocol.specs.Rules.{again};
 ghost use Rattle.act.specs.Draft.{workOf, left, leftBy, Ready};
 ghost use Rattle.release.specs.Released.{Releases, Released, ReleasedIf, firstTurn, allowedOf, nextTurn, draftAt, Turned, Ends, lastReleased, finishedOf};
-ghost use Rattle.release.specs.Search.{standing, knownBy, seen, noTarget, firstPlace, lookOf, nextView, nextName, stepOf, targetFrom, lowestTarget};
+ghost use Rattle.release.specs.Search.{standing, knownBy, seen, noTarget, firstPlace, lookOf, nextView, nextName, stepOf, targetFrom, lowestTarget, questOf, atNextView, passed};
 
 // Where the search stands: at a view, above a name or at its first; how many views come after it, and how many of its names are still tried.
 struct Place {
@@ -131,6 +133,51 @@ fn look_at(mem: &[u8], p: Place) -> Look
     }
 }
 
+// So few votes and commits are kept for the view that it decides nothing.
+fn decides_nothing(mem: &[u8], view: u64) -> bool
+    requires { ⌜ (memoryLength ≤ length (now mem)) × (replicas (settingsOf (now mem)) ≤ largest) ⌝ }
+    ensures { λ r. ⌜ r ≡ tooFew (now (mem .entry)) (questOf (now (mem .entry)) view) ⌝ }
+{
+    let s = settings(mem);
+    let q = Quest {
+        view,
+        n: s.n() as usize,
+        votes: s.fast_quorum(),
+        commits: s.slow_quorum(),
+    };
+    too_few(mem, q)
+}
+
+// The start of the view after a place's.
+fn at_next_view(mem: &[u8], p: Place) -> Place
+    requires { ⌜ (memoryLength ≤ length (now mem)) × ((p .view + 1 < 2 ^ 64) × (1 ≤ p .views)) ⌝ }
+    ensures { λ r. ⌜ r ≡ atNextView (now (mem .entry)) p ⌝ }
+{
+    let n = settings(mem).n() as usize;
+    Place {
+        view: p.view + 1,
+        some: false,
+        name: [0u8; 32],
+        views: p.views - 1,
+        tries: n + n + 1,
+    }
+}
+
+// Views that decide nothing are passed over, so that the store is not asked for them.
+fn pass_views(mem: &[u8], first: Place) -> Place
+    requires { ⌜ (memoryLength ≤ length (now mem)) × ((replicas (settingsOf (now mem)) ≤ largest) × (first .view + first .views < 2 ^ 63)) ⌝ }
+    ensures { λ r. ⌜ r ≡ passed (now (mem .entry)) first ⌝ }
+{
+    let mut p = first;
+    while 0 < p.views {
+        if !decides_nothing(mem, p.view) {
+            return p;
+        }
+        p = at_next_view(mem, p);
+    }
+    p
+}
+
 // No name of the view is left.
 fn next_view(p: Place, tries: usize) -> Step
     requires { ⌜ p .view + 1 < 2 ^ 64 ⌝ }
@@ -215,10 +262,11 @@ fn target_from(mem: &[u8], store: &[Block], tip: Block, p: Place) -> Target
     requires { ⌜ (memoryLength ≤ length (now mem)) × ((replicas (settingsOf (now mem)) ≤ largest) × (p .view + p .views < 2 ^ 63)) ⌝ }
     ensures { λ r. ⌜ r ≡ targetFrom p (seen tip (now (mem .entry)) (now (store .entry))) ⌝ }
 {
-    let l = look_at(mem, p);
+    let q = pass_views(mem, p);
+    let l = look_at(mem, q);
     let b = blocks::held(store, l.count, tip, l.name);
     let down = blocks::descends(store, l.count, tip, b.block);
-    let s = next_step(p, l, b, down);
+    let s = next_step(q, l, b, down);
     if s.goes {
         target_from(mem, store, tip, s.place)
     } else {
