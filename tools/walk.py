@@ -10,17 +10,19 @@
     fn        'crate::f'                     kit       the crate of the shared modules
     params    a name for each parameter. Names of the shared modules (store, some, bytes, word, end, of, full, mem, ..), and y, s, f, C, H, A, W, are taken
     requires  the clause, over {name} (of a slice or a `&mut S`, what it refers to), or left out
-    callees   {'crate::g': {'ens': the clause, over {0}, {1}, .. (the arguments; of a slice its list), r, and {w0}, .. (the last list of argument 0, ..), 'req': 'yes' where g has a `requires`}}, f itself among them if it calls itself
+    callees   {'crate::g': {'ens': the clause, over {0}, {1}, .. (the arguments; of a slice its list), r, and {w0}, .. (the last list of argument 0, ..); None where it is not needed, 'req': 'yes' where g has a `requires`}}, f itself among them if it calls itself
     asks      [proof ..]   of each call whose callee has a `requires`, in order.        fits   [proof ..]  of each sum (that it is below 2 ^ 64) and each difference (that what is taken is at most that from which), in order
     says      [proof ..]   of the `ensures`, at each return, in order; '' where f has none, as 'ens' is '' where g has none
     lets      [[(name, type, proof) ..] ..]   facts, in front of the arms: of branch 0 the first and the second, and so on
     measure   of a function that calls itself: the parameter that falls, or a path into it (`b .height .0`).         weight   a function from that to a number, where it is none
     falls    [proof ..]   of each call of itself
     types     {crate: the crate whose Types.antt has its structs}, where that is another
+    local     the module with the steps that lend a local and a `&mut S` again, and with `forks` (crates/run/proofs/Local.antt); then a branch goes by `forks`, which is cheaper to check
     spec      {module: [names]} to import: definitions and lemmas.          lemmas   text put in front          about   a sentence for the head of the file
 The proofs may name: the parameters; P-is (that the plain parameter P is of its type: `.1` of a number's is its bound); P-room (of a slice); `asked` (the requires);
 of call N, from 0: rN (the result), wsN (the last values), isN, eN (its `ensures`), lN-k (the length of the k-th slice that it was lent); yesN, noN (of branch N).
-Done: slices lent again as & and as &mut, `&[S]` passed on, `*c` copied out and stored whole at a `&mut S`, fields of a local, calls of any crate, one `if` whose arms come to one value, calls of itself.
+Done: slices lent again as & and as &mut, `&[S]` passed on, `*c` copied out and stored whole at a `&mut S`, fields of a local, calls of any crate, one `if` whose arms come to one value, calls of itself;
+with `local` also: a `&mut S` lent again (by a function that does not look behind it), `&mut x` of a local that holds a struct, a local `[x; n]` of structs lent whole as a slice (its content is not followed after that), a callee with one `&[T]` that returns a part of it.
 Not done, and said so: loops, `match`, `return` in an arm, an operation other than +, - and <, a field behind a reference, `&S`.
 """
 import argparse, ast, re, sys
@@ -71,7 +73,7 @@ def path(k): return ' .1' * k + ' .0'
 BY_CRATE = set()
 def by_crate(callees):
     last = lambda q: q.split('::')[-1]
-    BY_CRATE.update(q for q in callees if last(q) == 'record' or [last(c) for c in callees].count(last(q)) > 1)
+    BY_CRATE.update(q for q in callees if last(q) in ('record', 'open') or [last(c) for c in callees].count(last(q)) > 1)
 def alias(q): return (q.replace('::', '-') if q in BY_CRATE else q.split('::')[-1]).replace('_', '-')
 def cons(xs): return ' ∷ '.join(list(xs) + ['[]'])
 
@@ -123,6 +125,27 @@ class Types:
         raise Exception(f'no type {t}')
     def behind(self, t):
         return f'pointee ({self.row(t)} .written)' if self.kind(t) == 'tyNamed' else self.mir(t)
+    def layout(self, t):
+        """size and alignment"""
+        k = self.kind(t)
+        if k == 'tyInt': return int(t[1]) // 8, int(t[1]) // 8
+        if k == 'tyBool': return 1, 1
+        if k == 'tyArray':
+            n, a = self.layout(t[1]); return n * int(t[2][1]), a
+        if k != 'tyNamed': raise Exception(f'no size of {t}')
+        at, al = 0, 1
+        for _, f in self.fields[t[1][1].strip('"')]:
+            n, a = self.layout(f); at = -(-at // a) * a + n; al = max(al, a)
+        return -(-at // al) * al, al
+    def offsets(self, t, path):
+        out = []
+        for k in path:
+            at = 0
+            for j, (_, f) in enumerate(self.fields[t[1][1].strip('"')]):
+                n, a = self.layout(f); at = -(-at // a) * a
+                if j == k: out.append((f, at)); t = f; break
+                at += n
+        return out
     def part(self, v, k):
         """field k of a struct's value"""
         q, n = self.struct(v.ty)
@@ -203,11 +226,23 @@ class Walk:
             elif self.T.kind(t) == 'tyRef':
                 if t[2] != 'mut': raise Exception('a & to a struct is not done')
                 p.kind = 'ref'; p.lft = int(t[1][1]); p.elem = t[3]
+                p.shut = not self.looked_at(i + 1)
             else: p.kind = 'plain'
             if p.kind != 'plain':
                 p.row, p.b, p.o, p.g = self.T.row(p.elem), f'{nm}-b', f'{nm}-o', f'{nm}-γ'
                 p.now = nm; p.κ, p.q = f'κ{p.lft}', f'q{p.lft}'; p.len = 'refl'
             self.pars.append(p)
+
+    def looked_at(self, k):
+        """whether what lies behind the reference in local k is copied or stored"""
+        found = []
+        def walk(x):
+            if not isinstance(x, list): return
+            if x[0] == 'copy' and x[1][1] == str(k) and lst(x[1][2]) and lst(x[1][2])[0][0] == 'deref': found.append(x)
+            if x[0] == 'assign' and x[1][1] == str(k) and lst(x[1][2]): found.append(x)
+            for y in x: walk(y)
+        walk(self.fn['body'])
+        return bool(found)
 
     # ---- text
     def put(self, s): self.lines.append(s)
@@ -222,8 +257,9 @@ class Walk:
         self.front([n]); self.put('drop !  $'.replace('  ', ' ')); self.ctx.pop(0)
 
     def lying(self, p, l=None, g=None): return f'lying {p.row} {p.b} {p.o} {g or p.g} {l or p.now}'
-    def slice(self, p): return f'{p.name}-s'
-    def count(self, p): return f'{p.name}-n'
+    def slice(self, p): return getattr(p, 's', f'{p.name}-s')
+    def count(self, p): return getattr(p, 'n', f'{p.name}-n')
+    def fits(self, p): return 'lit< tt' if p.kind == 'array' else getattr(p, 'room', f'{p.name}-room') + ' .0'
 
     # ---- operands
     def reads(self, k, steps):
@@ -236,15 +272,17 @@ class Walk:
             if steps[1:]: raise Exception('a field behind a reference is not done: copy the struct')
             return f'(load ! (from ! (hop ! (look ! {P()} refl) (stop !))) (look-raw ! {self.at("cell:" + p.name)} refl))', p.value
         fl, sb = '(stop !)', '(whole !)'
-        for s in reversed(steps): fl = f'(fld ! refl {fl})'
-        for s in steps: sb = f'(sub ! {s[1]} refl {sb})'
+        # where the field lies, and its type, are written out: antt would carry the sum of the sizes before it
+        at = [('', '')] * len(steps) if isinstance(v, Lent) else [(f' {{τ = {self.T.mir(t)}}}', f' {{d = {d}}}') for t, d in self.T.offsets(v.ty, [int(s[1]) for s in steps])]
+        for t, d in reversed(at): fl = f'(fld !{t}{d} refl {fl})'
+        for s, (t, d) in zip(steps, at): sb = f'(sub ! {s[1]}{t}{d} refl {sb})'
         if isinstance(v, Lent):
             p = v.p
             r = Value(['tyInt', '64'], self.count(p), f'(refl, {p.name}-room .0)') if steps[0][1] == '1' else None
         else:
             r = v
             for s in steps: r = self.T.part(r, int(s[1]))
-        return f'(load ! (from ! {fl}) (look-in ! {P()} {sb}))', r
+        return f'(load ! (from ! {fl}) (look-in ! {P()}{at[-1][0]} {sb}))', r
 
     def operand(self, o):
         if o == 'true' or o == 'false': return f'({o}-lit !)', Value('tyBool', o, 'refl')
@@ -262,7 +300,14 @@ class Walk:
         verb = 'assigns-last' if last else 'assigns'
         if rv[0] == 'addrOf':
             j, st = int(rv[1][1]), lst(rv[1][2])
+            if not st:
+                self.put(f'{verb} ! (addr ! (from ! (stop !))) {self.target(k, "(tt, tt)")} $')
+                self.loc[k] = Lent(self.own_local(j), 'mut'); return
             p = self.loc[j].p
+            if p.kind == 'ref':
+                if not p.shut: raise Exception('a `&mut S` that is looked at and lent again is not done')
+                self.put(f'{verb} ! (addr ! (from ! (hop ! (look ! {self.at(f"L{j}")} refl) (stop !)))) {self.target(k, "(tt, tt)")} $')
+                self.loc[k] = Lent(p, 'mut'); return
             self.put(f'{verb} ! (addr ! (from ! (fld ! refl (hop ! (look-in ! {self.at(f"L{j}")} (sub ! 0 refl (whole !))) (stop !))))) {self.target(k, "(tt, tt)")} $')
             self.loc[k] = Lent(p, 'ptr'); return
         if rv[0] == 'aggregate':
@@ -270,9 +315,15 @@ class Walk:
             p = self.loc[int(os[0][1][1])].p
             t = self.fn['locals'][k][2][1]
             a = f'(load ! (from ! (stop !)) (look ! {self.at("L" + os[0][1][1])} refl))'
-            b = f'(load ! (from ! (fld ! refl (stop !))) (look-in ! {self.at("L" + os[1][1][1])} (sub ! 1 refl (whole !))))'
-            self.put(f'{verb} ! (agg ! (and-then ! {a} (and-then ! {b} (no-more !)))) {self.target(k, f"(tt, (tt, (record {{ fits = {p.name}-room .0 }}, tt)))")} $')
+            b = '(lit ! tt)' if p.kind == 'array' else f'(load ! (from ! (fld ! refl (stop !))) (look-in ! {self.at("L" + os[1][1][1])} (sub ! 1 refl (whole !))))'
+            self.put(f'{verb} ! (agg ! (and-then ! {a} (and-then ! {b} (no-more !)))) {self.target(k, f"(tt, (tt, (record {{ fits = {self.fits(p)} }}, tt)))")} $')
             self.loc[k] = Lent(p, 'mut' if t[2] == 'mut' else 'shr'); return
+        if rv[0] == 'repeat':
+            o, x = self.operand(rv[1]); n = rv[2]; R, D = self.T.row(x.ty), self.T.data(x.ty)
+            v = Value(self.fn['locals'][k], f'(replicate {n} {x.term})', f'(repeated {R} {x.term} {self.T.val(x.ty, x.term)} {x.is_} {n})')
+            v.val, v.len = f'(arrayVal (replicate {n} {self.T.val(x.ty, x.term)}))', f'(length-replicate {n} {x.term})'
+            self.put(f'{verb} ! (rep ! {n} {o}) {self.target(k, f"(array-lawful 𝓤 H A W {R} ({D} .lawful 𝓤 H A W) {n} .typed {v.term} ({v.val} ∷ []) {v.is_} .0)")} $')
+            self.loc[k] = v; return
         if rv[0] == 'op2':
             op = rv[1][0] if isinstance(rv[1], list) else rv[1]
             a, x = self.operand(rv[2]); b, y = self.operand(rv[3])
@@ -294,10 +345,53 @@ class Walk:
             p = self.loc[k].p
             self.put(f'{verb} ! (of-opd ! {o}) (from ! (hop ! (look ! {self.at(f"L{k}")} refl) (stop !))) (store-raw ! {self.at("cell:" + p.name)} refl {self.T.typed(v.ty, v.term, v.is_)}) $')
             p.value = v; p.now = v.term; return
-        if isinstance(v, Lent): typed = f'(tt, (tt, (record {{ fits = {v.p.name}-room .0 }}, tt)))'
+        if isinstance(v, Lent): typed = f'(tt, (tt, (record {{ fits = {self.fits(v.p)} }}, tt)))'
         else: typed = self.T.typed(v.ty, v.term, v.is_)
         self.put(f'{verb} ! (of-opd ! {o}) {self.target(k, typed)} $')
         self.loc[k] = v
+
+    def own_local(self, j):
+        """the local j, which holds a struct or an array of structs and is lent for a call"""
+        p = Par(); p.j, p.name, p.ty, p.b, p.o = j, f'own{j}', self.fn['locals'][j], L(j), 'zero'
+        if self.T.kind(p.ty) == 'tyArray':
+            p.kind, p.elem, p.n, p.room = 'array', p.ty[1], p.ty[2][1], '(lit< tt, lit< tt)'
+            p.s = f'(sliceVal ({p.b}, zero) {p.n})'
+        else: p.kind, p.elem = 'own', p.ty
+        p.row, p.data = self.T.row(p.elem), self.T.data(p.elem)
+        return p
+
+    def lend_local(self, v, n, i):
+        p = v.p; x = self.loc[p.j]; ν, δ = f'ν{n}-{i}', f'δ{n}-{i}'
+        self.front([f'L{p.j}'])
+        if p.kind == 'own': self.bind(f'lend-local ! tt {p.row} {p.data} refl {x.term} {x.is_} {p.b} (λ {ν} {δ}.')
+        else: self.bind(f'lend-array ! tt {p.row} ({p.data} .makes 𝓤 H A W) tt {p.n} {x.term} {x.val} {x.is_} {p.room} {x.len} {p.b} (λ {ν} {δ}.')
+        self.ctx = [f'nu{i}', f'go{i}', f'keep{i}'] + self.ctx[1:]
+        v.ys, v.lft, v.share, v.gh, v.tok = x.term, f'({ν} ∷ [])', 'fullShare', δ, f'nu{i}'
+
+    def back_local(self, v, n):
+        p = v.p
+        self.front([v.tok, f'fin{v.k}', f'keep{v.k}'])
+        if p.kind == 'own':
+            self.bind(f'back-local ! tt {p.row} {p.data} refl {v.zs} {p.b} (λ b{n}-{v.k}.')
+            self.loc[p.j] = Value(p.ty, v.zs, f'b{n}-{v.k}')
+        else:
+            self.put(f'back-array ! tt {p.row} {p.n} {v.ys} {v.zs} {p.b} $'); self.loc[p.j] = None
+        self.ctx = [f'L{p.j}'] + self.ctx[3:]
+
+    def came_slice(self, n, k, mod, Φ, told, of):
+        """the result is a part of the `&[T]` that was passed, for its lifetime"""
+        t = self.fn['locals'][k]; r, is_ = f'r{n}', f'is{n}'
+        wt = f'(λ r is. subst (λ (u : List Val). Holds (hasTy ({self.T.mir(t)}) (only u)) × WT (only u)) (sym (is .0 .0)) (tt, (tt, (record {{ fits = is .0 .1 .0 }}, tt))))'
+        self.bind(f'came-held ! {mod}.ended ({mod}.clauses 𝓤 H A mem run) y{n} w{n} {self.at(f"L{k}")} refl {wt} (λ r ws. {Φ}) (λ r ws. {told}) (λ {r} ws{n} {is_} e{n}.')
+        p = Par(); p.kind, p.name, p.row, p.lft, p.κ, p.q, p.len = 'shr', f'got{n}', of.row, of.lft, of.κ, of.q, 'refl'
+        p.b, p.o, p.g, p.now, p.room = f'({r} .ptr .0)', f'({r} .ptr .1)', f'({r} .name)', f'({r} .now)', f'({is_} .0 .1)'
+        p.n = f'(length {p.now})'; p.s = f'(sliceVal ({r} .ptr) {p.n})'
+        self.ctx = [f'own:{p.name}', 'ALIVE'] + self.ctx
+        self.put(f'rewrite ! 0 (λ (u : Val). ‵ (ShrSlice (named 0) {p.κ} {p.row} .own {r} (u ∷ []))) (ap only ({is_} .0 .0)) refl $')
+        self.put(f'rewrite ! {self.at(f"L{k}")} (λ (u : Val). ‵ (fat fullShare ({self.T.mir(t)}) {L(k)} zero u)) (ap only ({is_} .0 .0)) refl $')
+        self.front(['ALIVE']); self.put(f'use1 W (‵ (flft {p.κ} {p.q}) ⊛ ‵ ftrue) (id⊢ 𝓤 _) $ split ! $ move ! (1 ∷ []) $ drop ! $')
+        self.ctx[0] = f'tok{p.lft}'
+        self.loc[k] = Lent(p, 'shr')
 
     def call(self, name, ops, place, last):
         n = self.calls; self.calls += 1
@@ -317,8 +411,17 @@ class Walk:
         self.put(f'-- call {n}: `{name}`')
         # what is lent
         for i, v in enumerate(refs):
-            p = v.p; v.k = i; v.ys, v.len = p.now, p.len
+            p = v.p; v.k = i
+            if p.kind in ('own', 'array'): self.lend_local(v, n, i); continue
+            v.ys, v.len = p.now, p.len
             tok, own = f'tok{p.lft}', f'own:{p.name}'
+            if p.kind == 'ref':
+                ν, δ = f'ν{n}-{i}', f'δ{n}-{i}'
+                self.front([own, tok])
+                self.bind(f'lend-ref ! tt {p.row} {p.b} {p.o} {p.now} (λ {ν} {δ}.')
+                self.ctx = [f'nu{i}', f'go{i}', f'keep{i}'] + self.ctx[2:]
+                v.lft, v.share, v.gh, v.tok = f'({ν} ∷ [])', 'fullShare', δ, f'nu{i}'
+                continue
             if p.kind == 'shr':
                 S = f'‵ (Shr {p.row} {p.κ} {p.b} {p.o} {p.g} {self.count(p)} {p.now})'
                 self.front([own])
@@ -335,8 +438,10 @@ class Walk:
                 v.item = f'‵ ({"Mut" if v.how == "mut" else "Shr"} {p.row} {v.lft} {p.b} {p.o} {δ} {self.count(p)} {p.now})'
         # what the callee's triple binds outside
         κs, qs = nest([v.lft for v in refs]), nest([v.share for v in refs])
-        avs = nest([self.lying(v.p, v.ys, v.gh) if isinstance(v, Lent) else v.term for _, v in args])
-        vvs = nest([f'{self.slice(v.p)} ∷ []' if isinstance(v, Lent) else f'{self.T.val(v.ty, v.term)} ∷ []' for _, v in args])
+        lends = lambda v: f'pointing {v.p.row} {v.p.b} {v.p.o} {v.gh} {v.ys}' if v.p.kind in ('own', 'ref') else self.lying(v.p, v.ys, v.gh)
+        machine = lambda v: f'vptr {v.p.b} {v.p.o}' if v.p.kind in ('own', 'ref') else self.slice(v.p)
+        avs = nest([lends(v) if isinstance(v, Lent) else v.term for _, v in args])
+        vvs = nest([f'{machine(v)} ∷ []' if isinstance(v, Lent) else f'{self.T.val(v.ty, v.term)} ∷ []' for _, v in args])
         self.put(f'let y{n} : {G} 𝓤 H A mem run .Ghost = (({κs}, {qs}, tt, {avs}, {vvs}), tt) in')
         # what it asks
         terms = [v.ys if isinstance(v, Lent) else v.term for _, v in args]
@@ -358,12 +463,16 @@ class Walk:
         else:
             self.bind(f'calls-at{l} ! fm ({G} 𝓤 H A mem run) (known{self.known_path(name)}) y{n} {opds} (λ w{n}.')
         ws = {f'w{i}': f'(ws{path(i)})' for i in range(len(args))}
-        Φ = c['ens'].format(*terms, **ws) or 'Unit {0}'
-        told = 'id⊢ 𝓤 _' if c['ens'] else 'so 𝓤 tt'
-        back = lambda v: isinstance(v, Lent) and v.how == 'mut' and v.p.kind == 'mut'
+        Φ = (c['ens'] or '').format(*terms, **ws) or 'Unit {0}'
+        told = 'factI 𝓤 _ _ tt' if c['ens'] is None else 'id⊢ 𝓤 _' if c['ens'] else 'so 𝓤 tt'
+        back = lambda v: isinstance(v, Lent) and v.how == 'mut' and v.p.kind in ('mut', 'ref', 'own', 'array')
         outs = cons('true' if back(v) else 'false' for _, v in args) if any(back(v) for _, v in args) else '[]'
         k = int(place[1]); t = self.fn['locals'][k]
         self.ctx.pop(0)
+        if self.T.kind(t) == 'tyStruct':
+            if last or len(refs) != 1 or refs[0].p.kind != 'shr': raise Exception('a result that is a slice is done for a callee with one `&[T]`, in front of other code')
+            self.ctx.remove(refs[0].tok) if refs[0].tok in self.ctx else None
+            self.came_slice(n, k, mod, Φ, told, refs[0].p); return
         self.bind(f'came{l} ! {mod}.ended ({mod}.clauses 𝓤 H A mem run) y{n} w{n} {self.T.data(t)} {self.at(f"L{k}")} refl refl ({outs}) (λ r ws. {Φ}) (λ r ws. {told}) (λ r{n} ws{n} is{n} e{n}.')
         self.ctx = [v.tok for v in refs] + [f'fin{v.k}' for _, v in args if back(v)] + self.ctx
         for i, (_, v) in enumerate(args):
@@ -376,6 +485,12 @@ class Walk:
         for v in refs:
             p = v.p
             if p.kind == 'shr': continue
+            if p.kind in ('own', 'array'): self.back_local(v, n); continue
+            if p.kind == 'ref':
+                self.front([v.tok, f'fin{v.k}', f'keep{v.k}'])
+                self.put(f'back-ref ! tt {p.row} {p.b} {p.o} {v.ys} {v.zs} $')
+                self.ctx = [f'own:{p.name}', f'tok{p.lft}'] + self.ctx[3:]; p.now = v.zs
+                continue
             if v.how == 'mut':
                 self.front([v.tok, f'fin{v.k}', f'keep{v.k}'])
                 self.bind(f'back-again ! tt {p.row} {p.b} {p.o} {self.count(p)} {v.ys} {v.zs} {p.name}-room {v.len} (λ l{n}-{v.k}.')
@@ -390,6 +505,7 @@ class Walk:
         """on to the piece of code d, once"""
         if self.gone_to == d: return
         self.gone_to = d
+        if 'local' in self.d: self.put(f'on{self.branches - 1} _ $'); return
         ls = ' '.join(L(k) for k in range(self.N))
         self.put(f'exec ! C Λ (En {ls}) after-{d} (atRet (En {ls}) Post) $')
         self.pieces.add(d)
@@ -425,13 +541,13 @@ class Walk:
     def branch(self, s, rest, depth):
         n = self.branches; self.branches += 1
         o, v = self.operand(s[1])
-        self.put(f'first ! $ branches ! {o}')
+        self.put(f'forks ! {o}' if 'local' in self.d else f'first ! $ branches ! {o}')
         snap = self.save()
         lets = self.d.get('lets', [])
         for j, (word, arm) in enumerate((('yes', s[2]), ('no', s[3]))):
             self.restore(snap)
             m, self.open = self.open, 0
-            self.put(f'({"λ"} {word}{n}.')
+            self.put(f'({"λ"} {f"joined{n} on{n} " if "local" in self.d else ""}{word}{n}.')
             for (nm, ty, pf) in (lets[2 * n + j] if 2 * n + j < len(lets) else []): self.put(f'let {nm} : {ty} = {pf} in')
             self.run(arm, (rest, depth), depth)
             self.lines[-1] += ')' * (self.open + 1)
@@ -446,7 +562,7 @@ class Walk:
         n = self.rets; self.rets += 1
         self.put('-- the exit')
         for p in self.pars:
-            if p.kind != 'ref': continue
+            if p.kind != 'ref' or p.shut: continue
             v = p.value; nm = p.name
             self.drop(f'cown:{nm}'); self.put(self.T.owned(p.elem, v.term, v.is_)); self.ctx = [f'cown:{nm}'] + self.ctx
             self.front([f'cell:{nm}', f'cown:{nm}', f'obor:{nm}', f'obs:{nm}', f'auth:{nm}'])
@@ -455,14 +571,14 @@ class Walk:
         r = self.loc[0]
         cells = [c for k in reversed(range(self.N)) for c in (f'L{k}', f'D{k}')]
         m = len(self.ctx) - 2 * self.N
-        if self.ctx[m:] != cells: raise Exception('the locals do not stand last')
+        if self.ctx[m:] != cells: self.front([c for c in self.ctx if c not in cells] + cells)
         self.put(f'returns ! (look ! {self.at("L0")} refl) $ leave ! {m} ({cons("full _" if self.loc[k] is not None else "empty" for k in range(self.N))}) refl $')
         self.ctx = self.ctx[:m]
         lasts = nest([p.now if p.kind in ('mut', 'ref') else 'tt' for p in self.pars])
         fit = nest([p.len if p.kind == 'mut' else 'tt' for p in self.pars])
         sup, have = 'end', [f'tok{j}' for j in range(self.fn['lifetimes'])]
         for p in self.pars:
-            if p.kind == 'ref':
+            if p.kind == 'ref' and not p.shut:
                 self.front([f'obs:{p.name}', f'bor:{p.name}'])
                 self.put(f'feqI ! (List Val) (vptr {p.b} {p.o} ∷ []) (vptr {p.b} {p.o} ∷ []) refl $ fjoin3 ! $'); self.ctx = [f'own:{p.name}'] + self.ctx[2:]
             if p.kind in ('mut', 'ref'): have.append(f'own:{p.name}')
@@ -493,10 +609,10 @@ class Walk:
         for p in self.pars:
             self.front(['OWNS']); self.put('fsplit ! $'); self.ctx = [f'own:{p.name}'] + self.ctx
             if p.kind == 'plain': self.drop(f'own:{p.name}')
-            if p.kind == 'ref': self.put('fsplit3 ! $ drop ! $'); self.ctx = [f'obs:{p.name}', f'bor:{p.name}'] + self.ctx[1:]
+            if p.kind == 'ref' and not p.shut: self.put('fsplit3 ! $ drop ! $'); self.ctx = [f'obs:{p.name}', f'bor:{p.name}'] + self.ctx[1:]
         self.drop('OWNS')
         for p in self.pars:
-            if p.kind != 'ref': continue
+            if p.kind != 'ref' or p.shut: continue
             nm, R = p.name, p.row
             self.front([f'obs:{nm}', f'bor:{nm}', f'tok{p.lft}'])
             self.bind(f'opens ! tt {R} {{h = {nm}}} {p.b} {p.o} (λ {nm}-vs. spelt ! {R} (Is {R}) (shows 𝓤 H A {R}) {self.T.vals(p.elem)} ({self.T.tells(p.elem)}) fullShare {nm} {nm}-vs {p.b} {p.o} $ move ! (1 ∷ []) $')
@@ -739,6 +855,12 @@ unfolding code.{dashed}-routine tablesOf
         plain = [n for n in got if ns[n] != 'mod']
         for i in range(0, len(plain), 70): uses.append(f'use {kit}.{m}.{{{", ".join(plain[i:i + 70])}}}')
         uses += [f'use {kit}.{m}.{n}' for n in got if ns[n] == 'mod']
+    if 'local' in d:
+        ns = [n for n in ('pointing', 'lend-ref', 'back-ref', 'lend-local', 'back-local', 'lend-array', 'back-array', 'repeated', 'came-held', 'forks') if n in words]
+        if ns: uses.append(f'use {d["local"]}.{{{", ".join(ns)}}}')
+    if 'factI' in words: uses.append('use contract.Monad.{factI}')
+    if 'rep' in words: uses.append('use types.Part.{rep}')
+    if 'replicate' in words: uses.append('use lib.ListN.{replicate, length-replicate}')
     for m, ns in d.get('spec', {}).items(): uses.append(f'use {m}.{{{", ".join(ns)}}}')
     for q in T.used:
         n = q.split('::')[1]

@@ -217,7 +217,7 @@ module _ (d : Draft) (m o : List ℕ) (v : ℕ) (l : d .at ≤ length o) {x : Ch
         (λ s. rw e (sym (rw (some-is true h, outranks-is, f)))) a
 
 -- below the lock's view
-lower-view : (v : ℕ) (x : List ℕ) (c : Counters) → v < c .lock .view .0 → outranks (blockCertificate v x 0) (locksOf c .lock) ≡ false
+pub lower-view : (v : ℕ) (x : List ℕ) (c : Counters) → v < c .lock .view .0 → outranks (blockCertificate v x 0) (locksOf c .lock) ≡ false
 unfolding outranks locksOf lockOf
 lower-view v x c h = rw (ne-eqb v (c .lock .view .0) (λ e. absurd (omega (arith, h, e))), le-ltb (c .lock .view .0) v (omega (arith, h))) refl
 

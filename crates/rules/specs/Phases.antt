@@ -1,10 +1,14 @@
 -- The run of the rules A, B and C: the first three parts of `settle` of protocol. Assumes nothing.
-use Prim.Native.Nat.{ℕ, suc}
+use Prim.Native.Nat.{ℕ, zero, suc, _-_}
+use mathlib.Core.Bool.{Bool, true, false, cond}
 use mathlib.Core.List.{List}
+use lib.Dec.{leb, ltb}
+use Rattle.settings.specs.declared.Settings.{Settings}
 use Rattle.settings.specs.Quorum.{blockQuorum, replicas}
 use Rattle.memory.specs.declared.decided.Quest.{Quest}
-use Rattle.memory.specs.Layout.{settingsOf}
-use Rattle.memory.specs.Window.{lowest}
+use Rattle.memory.specs.Layout.{settingsOf, voteRow, timeoutRow}
+use Rattle.memory.specs.Kept.{keptCount}
+use Rattle.memory.specs.Window.{lowest, highest}
 use Rattle.protocol.specs.Work.{Work, viewNow}
 use Rattle.protocol.specs.Events.{progress}
 use Rattle.protocol.specs.Rules.{formedBlock, ruleA, ruleB, ruleC, each, timeoutViews, ballotViews}
@@ -29,3 +33,24 @@ phaseC W = each ruleC (lowest (viewNow W)) (ballotViews W) W
 
 unfoldable pub phases : Work → Work
 phases W = phaseC (phaseB (phaseA W))
+
+-- ---- NOTHING TO DO: tests by the numbers of kept timeouts and votes alone
+-- a test fails at each of k views from v on
+unfoldable pub nowhere : (ℕ → Bool) → ℕ → ℕ → Bool
+nowhere test v zero = true
+nowhere test v (suc k) = cond (test v) false (nowhere test (suc v) k)
+
+module _ (m : List ℕ) where
+  -- f+1 timeouts are kept for a view
+  abbrev pub echoable : Settings → ℕ → Bool
+  echoable s v = ltb (s .f) (keptCount m (timeoutRow v) (replicas s))
+
+  unfoldable pub fewTimeouts : ℕ → Bool
+  fewTimeouts view = nowhere (echoable (settingsOf m)) view (suc (highest view) - view)
+
+  -- enough votes are kept for a view, and it isn't below the lock's
+  abbrev pub certifiable : Settings → ℕ → ℕ → Bool
+  certifiable s lock v = cond (ltb v lock) false (leb (blockQuorum s) (keptCount m (voteRow v) (replicas s)))
+
+  unfoldable pub fewVotes : ℕ → ℕ → Bool
+  fewVotes view lock = nowhere (certifiable (settingsOf m) lock) (lowest view) (suc (highest view) - lowest view)

@@ -3,12 +3,20 @@ use crate::rule_a;
 use crate::rule_b;
 use crate::rule_c;
 use act::Draft;
+use memory::kept::kept_count;
+use memory::kept::timeout_row;
+use memory::kept::vote_row;
+use memory::settings;
 use memory::window::highest;
 use memory::window::lowest;
-ghost use Prim.Native.Nat.{_+_, _*_};
-ghost use Rattle.memory.specs.Layout.{entryRoom};
+use settings::Settings;
+ghost use mathlib.Core.Path.{_≡_};
+ghost use Prim.Native.Nat.{_+_, _*_, _≤_};
+ghost use lib.ListN.{length};
+ghost use Rattle.settings.specs.Quorum.{largest, lastView, replicas};
+ghost use Rattle.memory.specs.Layout.{memoryLength, entryRoom, settingsOf};
 ghost use Rattle.act.specs.Draft.{Does, Ready};
-ghost use Rattle.rules.specs.Phases.{phaseA, phaseB, phaseC, phases};
+ghost use Rattle.rules.specs.Phases.{phaseA, phaseB, phaseC, phases, echoable, fewTimeouts, certifiable, fewVotes};
 
 fn run_a(mem: &mut [u8], out: &mut [u8], d: Draft) -> Draft
     requires { ⌜ Ready d (now mem) (now out) (112 * 4) ⌝ }
@@ -56,11 +64,79 @@ fn run_c(mem: &mut [u8], out: &mut [u8], d: Draft) -> Draft
 }
 
 // Rules A, B and C until none of them applies.
-pub fn run(mem: &mut [u8], out: &mut [u8], d: Draft) -> Draft
+fn run_all(mem: &mut [u8], out: &mut [u8], d: Draft) -> Draft
     requires { ⌜ Ready d (now mem) (now out) (112 * 4 + (entryRoom * 4 + 104 * 8)) ⌝ }
     ensures { λ r. ⌜ Does phases d (now (mem .entry)) (now (out .entry)) r (now (mem .exit)) (now (out .exit)) ⌝ }
 {
     let a = run_a(mem, out, d);
     let b = run_b(mem, out, a);
     run_c(mem, out, b)
+}
+
+// So many timeouts are kept for a view that rule A may apply; rule B takes more.
+fn echoable(mem: &[u8], s: Settings, view: u64) -> bool
+    requires { ⌜ (memoryLength ≤ length (now mem)) × (replicas s ≤ largest) ⌝ }
+    ensures { λ r. ⌜ r ≡ echoable (now (mem .entry)) s view ⌝ }
+{
+    (s.f as u64) < kept_count(mem, timeout_row(view), s.n())
+}
+
+// For none of the views from here on so many timeouts are kept that rule A or B applies.
+fn few_timeouts(mem: &[u8], view: u64) -> bool
+    requires { ⌜ (memoryLength ≤ length (now mem)) × ((replicas (settingsOf (now mem)) ≤ largest) × ((1 ≤ view) × (view ≤ lastView))) ⌝ }
+    ensures { λ r. ⌜ r ≡ fewTimeouts (now (mem .entry)) view ⌝ }
+{
+    let s = settings(mem);
+    let last = highest(view);
+    let mut at = view;
+    while at <= last {
+        if echoable(mem, s, at) {
+            return false;
+        }
+        at += 1;
+    }
+    true
+}
+
+// So many votes are kept for a view that rule C may apply.
+fn certifiable(mem: &[u8], s: Settings, view: u64, lock: u64) -> bool
+    requires { ⌜ (memoryLength ≤ length (now mem)) × (replicas s ≤ largest) ⌝ }
+    ensures { λ r. ⌜ r ≡ certifiable (now (mem .entry)) s lock view ⌝ }
+{
+    if view < lock {
+        return false;
+    }
+    s.block_quorum() <= kept_count(mem, vote_row(view), s.n())
+}
+
+// For none of the views from the lock's on enough votes are kept for rule C.
+fn few_votes(mem: &[u8], view: u64, lock: u64) -> bool
+    requires { ⌜ (memoryLength ≤ length (now mem)) × ((replicas (settingsOf (now mem)) ≤ largest) × ((1 ≤ view) × (view ≤ lastView))) ⌝ }
+    ensures { λ r. ⌜ r ≡ fewVotes (now (mem .entry)) view lock ⌝ }
+{
+    let s = settings(mem);
+    let last = highest(view);
+    let mut at = lowest(view);
+    while at <= last {
+        if certifiable(mem, s, at, lock) {
+            return false;
+        }
+        at += 1;
+    }
+    true
+}
+
+// Rules A, B and C. Mostly none of them applies, which the numbers of kept timeouts and votes tell before anything is moved.
+pub fn run(mem: &mut [u8], out: &mut [u8], d: Draft) -> Draft
+    requires { ⌜ Ready d (now mem) (now out) (112 * 4 + (entryRoom * 4 + 104 * 8)) ⌝ }
+    ensures { λ r. ⌜ Does phases d (now (mem .entry)) (now (out .entry)) r (now (mem .exit)) (now (out .exit)) ⌝ }
+{
+    let c = d.counters;
+    let lock = c.lock;
+    if few_timeouts(mem, c.view.0) {
+        if few_votes(mem, c.view.0, lock.view.0) {
+            return d;
+        }
+    }
+    run_all(mem, out, d)
 }

@@ -22,9 +22,7 @@ fn output(program: &Path, input: Vec<u8>) -> Vec<u8> {
     output.stdout
 }
 
-// Ignored while the run program is being proved; take the mark off when `rt check run` builds it.
 #[test]
-#[ignore = "the run program is being proved"]
 fn the_proved_program_prints_the_stored_lines() {
     let program = program();
     assert!(program.exists(), "{}: there is no such program, run `rt check run` first", program.display());

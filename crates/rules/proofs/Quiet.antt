@@ -1,0 +1,139 @@
+-- Where too few timeouts and votes are kept, the rules A, B and C change nothing. Assumes nothing.
+use Prim.Native.Nat.{ℕ, zero, suc, _+_, _-_, _≤_, _<_}
+use native.Mathlib.Omega.{arith}
+use mathlib.Core.Path.{_≡_, refl, sym, ap, _∙_}
+use mathlib.Core.Bool.{Bool, true, false, cond, _&&_, true≢false, false≢true}
+use mathlib.Core.List.{List}
+use borrow.Author.Tests.{lt-ltb, le-ltb, lt-leb, ltb-true, ltb-false, leb-false}
+use lib.Dec.{leb, ltb}
+use lib.ListN.{length}
+use Rattle.settings.specs.declared.Settings.{Settings}
+use Rattle.settings.specs.Quorum.{largest, replicas, blockQuorum, timeoutQuorum}
+use Rattle.blocks.specs.declared.Block.{Block}
+use Rattle.memory.specs.Layout.{voteRow, commitRow, timeoutRow, settingsOf}
+use Rattle.memory.specs.Kept.{has, keptCount}
+use Rattle.memory.specs.Window.{lowest, highest}
+use Rattle.memory.specs.Decided.{noChoice, nextDecided, tooFew}
+use Rattle.memory.proofs.Bits.{counted}
+use Rattle.memory.proofs.Counting.{kept-counted}
+use Rattle.memory.proofs.Passing.{few-none}
+use Rattle.memory.specs.Formed.{formed}
+use Rattle.protocol.specs.Work.{Work, n, own, viewNow, timed, sendTimeout}
+use Rattle.protocol.specs.Events.{progress}
+use Rattle.protocol.specs.Rules.{ruleA, ruleB, ruleC, enoughVotes, formedBlock, each}
+use Rattle.act.specs.declared.Draft.{Draft}
+use Rattle.act.specs.Draft.{workOf, Does}
+use Rattle.act.proofs.Steps.{does-stay}
+use Rattle.rules.specs.Phases.{phaseA, phaseB, phaseC, phases, nowhere, echoable, fewTimeouts, certifiable, fewVotes}
+use Rattle.rules.proofs.Views.{lower-view}
+
+-- ---- a test that fails at each view
+module _ (test : ℕ → Bool) where
+  nowhere-first : (v k : ℕ) → nowhere test v (suc k) ≡ true → (test v ≡ false) × (nowhere test (suc v) k ≡ true)
+  unfolding nowhere
+  nowhere-first v k h = go (test v) refl h
+    where
+      go : (t : Bool) → test v ≡ t → cond t false (nowhere test (suc v) k) ≡ true → (t ≡ false) × (nowhere test (suc v) k ≡ true)
+      go true e g = absurd (false≢true g)
+      go false e g = (refl, g)
+
+  -- the loop over the views up to the last one
+  pub nowhere-on : (last at : ℕ) → at ≤ last → test at ≡ false → nowhere test at (suc last - at) ≡ nowhere test (at + 1) (suc last - (at + 1))
+  unfolding nowhere
+  nowhere-on last at h e =
+      let f : suc last - at ≡ suc (last - at) = omega (arith, h) in
+      let g : at + 1 ≡ suc at = omega arith in
+      let k : suc last - suc at ≡ last - at = omega arith in
+      rw (f, g, k, e) refl
+
+  pub nowhere-off : (last at : ℕ) → at ≤ last → test at ≡ true → false ≡ nowhere test at (suc last - at)
+  unfolding nowhere
+  nowhere-off last at h e = let f : suc last - at ≡ suc (last - at) = omega (arith, h) in rw (f, e) refl
+
+  pub nowhere-end : (last at : ℕ) → last < at → true ≡ nowhere test at (suc last - at)
+  unfolding nowhere
+  nowhere-end last at h = let f : suc last - at ≡ 0 = omega (arith, h) in rw f refl
+
+-- no more are kept than there are replicas
+counted-most : (t : ℕ → Bool) (n : ℕ) → counted t n ≤ n
+unfolding counted
+counted-most t zero = omega arith
+counted-most t (suc n) = go (t n) (counted-most t n)
+  where
+    go : (b : Bool) → counted t n ≤ n → cond b (suc (counted t n)) (counted t n) ≤ suc n
+    go true h = omega (arith, h)
+    go false h = omega (arith, h)
+
+kept-most : (m : List ℕ) (row n : ℕ) → n ≤ 64 → keptCount m row n ≤ n
+kept-most m row n w = omega (arith, kept-counted m row n w, counted-most (has m row) n)
+
+-- a rule that changes nothing at each view
+each-rests : (rule : ℕ → Work → Work) (test : ℕ → Bool) (W : Work) → ((v : ℕ) → test v ≡ false → rule v W ≡ W) → (v k : ℕ) → nowhere test v k ≡ true → each rule v k W ≡ W
+unfolding each
+each-rests rule test W rest v zero h = refl
+each-rests rule test W rest v (suc k) h =
+    let f = nowhere-first test v k h in
+    ap (each rule (suc v) k) (rest v (f .0)) ∙ each-rests rule test W rest (suc v) k (f .1)
+
+last-false : (a b : Bool) (x y : Work) → cond (a && (b && false)) x y ≡ y
+last-false true true x y = refl
+last-false true false x y = refl
+last-false false b x y = refl
+
+second-false : (a : Bool) (x y : Work) → cond (a && false) x y ≡ y
+second-false true x y = refl
+second-false false x y = refl
+
+module _ (W : Work) where
+  abbrev m : List ℕ
+  m = W .memory
+
+  A-rests : (v : ℕ) → echoable m (settingsOf m) v ≡ false → ruleA v W ≡ W
+  unfolding ruleA
+  A-rests v e =
+      let few : leb (suc (settingsOf m .f)) (keptCount m (timeoutRow v) (replicas (settingsOf m))) ≡ false = lt-leb (suc (settingsOf m .f)) (keptCount m (timeoutRow v) (replicas (settingsOf m))) (omega (arith, ltb-false (settingsOf m .f) (keptCount m (timeoutRow v) (replicas (settingsOf m))) e)) in
+      rw few (last-false (leb (viewNow W) v) (ltb (timed W) v) (sendTimeout v W) W)
+
+  B-rests : (v : ℕ) → echoable m (settingsOf m) v ≡ false → ruleB v W ≡ W
+  unfolding ruleB
+  B-rests v e =
+      let few : leb (timeoutQuorum (settingsOf m)) (keptCount m (timeoutRow v) (replicas (settingsOf m))) ≡ false = lt-leb (timeoutQuorum (settingsOf m)) (keptCount m (timeoutRow v) (replicas (settingsOf m))) (omega (arith, ltb-false (settingsOf m .f) (keptCount m (timeoutRow v) (replicas (settingsOf m))) e)) in
+      rw few (second-false (leb (viewNow W) v) (progress (formed m v (n W) (own W)) W) W)
+
+  C-rests : replicas (settingsOf m) ≤ largest → (v : ℕ) → certifiable m (settingsOf m) (W .counters .lock .view .0) v ≡ false → ruleC v W ≡ W
+  unfolding ruleC tooFew
+  C-rests small v e = go (ltb v (W .counters .lock .view .0)) refl e
+    where
+      go : (t : Bool) → ltb v (W .counters .lock .view .0) ≡ t → cond t false (leb (blockQuorum (settingsOf m)) (keptCount m (voteRow v) (replicas (settingsOf m)))) ≡ false → ruleC v W ≡ W
+      go true f g = rw (lower-view v (nextDecided m (enoughVotes v W) noChoice .name) (W .counters) (ltb-true v (W .counters .lock .view .0) f)) (second-false (nextDecided m (enoughVotes v W) noChoice .some) (progress (formedBlock v W (nextDecided m (enoughVotes v W) noChoice .name)) W) W)
+      go false f g =
+          let votes : ltb (keptCount m (voteRow v) (replicas (settingsOf m))) (blockQuorum (settingsOf m)) ≡ true = lt-ltb (keptCount m (voteRow v) (replicas (settingsOf m))) (blockQuorum (settingsOf m)) (omega (arith, leb-false (blockQuorum (settingsOf m)) (keptCount m (voteRow v) (replicas (settingsOf m))) g)) in
+          let commits : ltb (keptCount m (commitRow v) (replicas (settingsOf m))) (suc (replicas (settingsOf m))) ≡ true = lt-ltb (keptCount m (commitRow v) (replicas (settingsOf m))) (suc (replicas (settingsOf m))) (omega (arith, kept-most m (commitRow v) (replicas (settingsOf m)) (omega (arith, small)))) in
+          let none : nextDecided m (enoughVotes v W) noChoice ≡ noChoice = few-none m (enoughVotes v W) small (rw (votes, commits) refl) noChoice in
+          rw none refl
+
+-- ---- NO RULE APPLIES
+pub all-rest : (d : Draft) (m o : List ℕ) → d .at ≤ length o → replicas (settingsOf m) ≤ largest → fewTimeouts m (d .counters .view .0) ≡ true → fewVotes m (d .counters .view .0) (d .counters .lock .view .0) ≡ true
+    → Does phases d m o d m o
+unfolding fewTimeouts fewVotes phases phaseA phaseB phaseC
+all-rest d m o l small t v = does-stay phases d m o l rests
+  where
+    rests : (s : List Block) → phases (workOf d m o s) ≡ workOf d m o s
+    rests s =
+        let W = workOf d m o s in
+        let c = d .counters .view .0 in
+        let k = suc (highest c) - c in
+        let a : each ruleA c k W ≡ W = each-rests ruleA (echoable m (settingsOf m)) W (A-rests W) c k t in
+        let b : each ruleB c k W ≡ W = each-rests ruleB (echoable m (settingsOf m)) W (B-rests W) c k t in
+        let z : each ruleC (lowest c) (suc (highest c) - lowest c) W ≡ W = each-rests ruleC (certifiable m (settingsOf m) (d .counters .lock .view .0)) W (C-rests W small) (lowest c) (suc (highest c) - lowest c) v in
+        rw (a, b, z) refl
+
+-- ---- the two loops, as the code takes them
+module _ (m : List ℕ) (view : ℕ) {s : Settings} {last : ℕ} (e : s ≡ settingsOf m) (f : last ≡ highest view) where
+  pub timeouts-are : nowhere (echoable m s) view (suc last - view) ≡ fewTimeouts m view
+  unfolding fewTimeouts
+  timeouts-are = rw (e, f) refl
+
+  pub votes-are : (lock low : ℕ) → low ≡ lowest view → nowhere (certifiable m s lock) low (suc last - low) ≡ fewVotes m view lock
+  unfolding fewVotes
+  votes-are lock low g = rw (e, f, g) refl
