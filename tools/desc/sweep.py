@@ -3,12 +3,12 @@
     'kit': 'walks',
     'types': {'settings': 'blocks'},
     'about': 'It calls itself: the method of `mutual-elim`, at the number of entries left. The store is lent as & to be judged, and then as &mut, for the call of itself and for `fill`.',
-    'params': ['ys', 'count', 'tip', 'i', 'left', 'at'],
-    'requires': '({i} + {left} ≡ length (take {count} {ys})) × ({at} ≤ {i})',
+    'params': ['ys', 'count', 'tip', 'i', 'left', 'at', 'last', 'good'],
+    'requires': '({i} + {left} ≡ length (take {count} {ys})) × (({at} ≤ {i}) × ({good} ≡ descendsOf {tip} (take {count} {ys}) {last}))',
     'measure': 'left',
     'callees': {
         'blocks::entry': {'req': 'yes', 'ens': 'r ≡ getD {0} {1} genesis'},
-        'blocks::descends': {'ens': 'r ≡ descendsOf {2} (take {1} {0}) {3}'},
+        'blocks::judged': {'req': 'yes', 'ens': 'r ≡ descendsOf {2} (take {1} {0}) {3}'},
         'blocks::place_of': {'req': 'yes', 'ens': 'r ≡ spotOf {0} {1}'},
         'blocks::fill': {'ens': '{w0} ≡ set {0} {1} {2}'},
         'blocks::sweep': {'req': 'yes', 'ens': 'Swept {2} (take {1} {0}) {0} {3} {5} r {w0}'},
@@ -17,8 +17,9 @@
     'fits': ['(omega (arith, i-less, ys-room .0))', '(omega (arith, more))'],
     'asks': [
         'i-less',
-        '(omega (arith, i-less, asked .1, ys-room .0))',
-        '(omega (arith, asked .0, more), subst (λ (z : Spot). z .next ≤ i + 1) (sym e2) (omega (arith, next-most r1 at, asked .1)))',
+        '(asked .1 .1)',
+        '(omega (arith, i-less, asked .1 .0, ys-room .0))',
+        '(omega (arith, asked .0, more), (subst (λ (z : Spot). z .next ≤ i + 1) (sym e2) (omega (arith, next-most r1 at, asked .1 .0)), e1))',
     ],
     'lets': [
         [

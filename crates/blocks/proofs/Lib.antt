@@ -1,6 +1,7 @@
 pub mod Types
 pub mod Finding
 pub mod Ancestry
+pub mod Judging
 pub mod Releases
 pub mod Dropping
 pub mod Filled

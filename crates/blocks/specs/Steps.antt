@@ -2,6 +2,7 @@
 use Prim.Native.Nat.{ℕ, _+_, _-_, _^_}
 use mathlib.Core.Bool.{Bool, true, false, cond, _&&_}
 use mathlib.Core.List.{List}
+use lib.Dec.{eqb}
 use lib.ListN.{drop}
 use Rattle.codec.specs.Names.{sameBytes}
 use Rattle.blocks.specs.Store.{below, descends, only}
@@ -17,6 +18,14 @@ onwardOf tip b c = record {
   ends = cond (sameBytes (tip .name) (b .parent)) (below tip b) false;
   block = c .block;
 }
+
+-- the same height and the same parent: what lies below two such blocks is the same
+abbrev pub alike : Block → Block → Bool
+alike a b = eqb (a .height .0) (b .height .0) && sameBytes (a .parent) (b .parent)
+
+-- the step s, where good says whether the block last descends: where it would go on at a block like last, it ends here, as last does
+unfoldable pub shortened : Block → Bool → Onward → Onward
+shortened last good s = cond (s .goes && alike (s .block) last) (record { goes = false; ends = good; block = s .block }) s
 
 -- the kept entries from place i on
 unfoldable pub keptFrom : Block → List Block → ℕ → List Block

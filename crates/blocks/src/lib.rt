@@ -11,7 +11,7 @@ ghost use lib.Seq.{sets};
 ghost use Rattle.codec.specs.Bytes.{patch};
 ghost use Rattle.codec.specs.Names.{sameBytes};
 ghost use Rattle.wire.specs.Encode.{releaseBytes};
-ghost use Rattle.blocks.specs.Steps.{onwardOf, keptFrom, spotOf};
+ghost use Rattle.blocks.specs.Steps.{onwardOf, shortened, keptFrom, spotOf};
 ghost use Rattle.blocks.specs.Store.{genesis, found, missing, find, held, descends, ancestry, releases, kept, dropped};
 use settings::Height;
 use settings::View;
@@ -161,6 +161,47 @@ pub fn descends(store: &[Block], count: usize, tip: Block, b: Block) -> bool
     }
 }
 
+// The step from b, where `good` says whether the block `last` descends: where it would go on at a block with the height and the parent of `last`, it
+// ends as `last` does, since nothing else of a block bears on that.
+fn step_known(tip: Block, b: Block, c: Found, last: Block, good: bool) -> Onward
+    ensures { λ r. ⌜ r ≡ shortened last good (onwardOf tip b c) ⌝ }
+{
+    let s = step(tip, b, c);
+    let d = s.block;
+    let p = d.parent;
+    let q = last.parent;
+    if !s.goes {
+        return s;
+    }
+    if d.height.0 != last.height.0 {
+        return s;
+    }
+    if codec::name::same(p, q) {
+        return Onward {
+            goes: false,
+            ends: good,
+            block: d,
+        };
+    }
+    s
+}
+
+// Whether b descends, as `descends` says it, in one scan of the store where b's parent is `last` or a sibling of `last`.
+fn judged(store: &[Block], count: usize, tip: Block, b: Block, last: Block, good: bool) -> bool
+    requires { ⌜ good ≡ descends tip (take count (now store)) last ⌝ }
+    ensures { λ r. ⌜ r ≡ descends tip (take count (now (store .entry))) b ⌝ }
+{
+    let p = b.parent;
+    let c = held(store, count, tip, p);
+    let s = step_known(tip, b, c, last, good);
+    if s.goes {
+        let d = s.block;
+        descends(store, count, tip, d)
+    } else {
+        s.ends
+    }
+}
+
 // The release of one block, and the place behind it.
 fn put_one(out: &mut [u8], at: usize, sender: u16, view: View, b: Block) -> usize
     requires { ⌜ at + 56 ≤ length (now out) ⌝ }
@@ -239,17 +280,26 @@ fn place_of(keep: bool, at: usize) -> Spot
 }
 
 // The `left` entries from place i on. Every one is judged before any is stored, so that each walk goes over the store as it was; and what lies
-// behind an entry is stored before it, at places behind its own.
-fn sweep(store: &mut [Block], count: usize, tip: Block, i: usize, left: usize, at: usize) -> usize
-    requires { ⌜ (i + left ≡ length (take count (now store))) × (at ≤ i) ⌝ }
+// behind an entry is stored before it, at places behind its own. `last` is the entry judged just before, and `good` its verdict.
+fn sweep(
+    store: &mut [Block],
+    count: usize,
+    tip: Block,
+    i: usize,
+    left: usize,
+    at: usize,
+    last: Block,
+    good: bool,
+) -> usize
+    requires { ⌜ (i + left ≡ length (take count (now store))) × ((at ≤ i) × (good ≡ descends tip (take count (now store)) last)) ⌝ }
     ensures { λ r. ⌜ (r ≡ at + length (keptFrom tip (take count (now (store .entry))) i))
         × (now (store .exit) ≡ sets (now (store .entry)) at (keptFrom tip (take count (now (store .entry))) i)) ⌝ }
 {
     if 0 < left {
         let b = entry(store, i);
-        let d = descends(store, count, tip, b);
+        let d = judged(store, count, tip, b, last, good);
         let s = place_of(d, at);
-        let r = sweep(store, count, tip, i + 1, left - 1, s.next);
+        let r = sweep(store, count, tip, i + 1, left - 1, s.next, b, d);
         fill(store, s.at, b);
         r
     } else {
@@ -257,10 +307,11 @@ fn sweep(store: &mut [Block], count: usize, tip: Block, i: usize, left: usize, a
     }
 }
 
-// The new count.
+// The new count. Before the first entry stands genesis, which does not descend: its height is 0.
 pub fn drop_others(store: &mut [Block], count: usize, tip: Block) -> usize
     ensures { λ r. ⌜ (r ≡ length (kept tip (take count (now (store .entry))))) × (now (store .exit) ≡ dropped tip count (now (store .entry))) ⌝ }
 {
     let n = lesser(count, store.len());
-    sweep(store, count, tip, 0, n, 0)
+    let none = nothing();
+    sweep(store, count, tip, 0, n, 0, none.block, none.is)
 }
