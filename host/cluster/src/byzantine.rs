@@ -1,0 +1,364 @@
+//! The Byzantine process. It follows the protocol with a replica of its own to know what is going on, and lies about
+//! what that one says: two blocks in its view, votes, commits and high votes for several names, each replica told
+//! something else, much withheld; beside that forged signatures, records of others, and garbage. It has its own key
+//! only.
+
+use std::path::Path;
+use std::sync::mpsc::RecvTimeoutError;
+use std::sync::Arc;
+use std::time::Duration;
+use std::{fs, io};
+
+use oracle::wire::{self, kind, Progress};
+use oracle::{Certificate, Protocol, View, Vote, GENESIS};
+use replica::{Refusal, Replica};
+use streams::Random;
+
+use crate::card::{self, Signature, Signatures, Signer};
+use crate::contents::{Blocks, Contents};
+use crate::frame::Frame;
+use crate::net::{Event, Net};
+use crate::{entry_record, key_file, N, SETTINGS};
+
+const TICK: Duration = Duration::from_millis(4);
+/// Frames of others that it remembers.
+const SEEN: usize = 32;
+/// Blocks that it chooses false votes from.
+const RECENT: usize = 6;
+
+struct Liar {
+    net: Net,
+    own: u16,
+    protocol: Protocol,
+    replica: Replica,
+    signatures: Signatures,
+    blocks: Blocks,
+    recent: Vec<Contents>,
+    seen: Vec<Frame>,
+    /// The last view that it did something about as leader.
+    led: u64,
+    random: Random,
+}
+
+pub fn run(folder: &Path, own: u16, seed: u64) -> io::Result<()> {
+    let key = fs::read(key_file(folder, own))?;
+    let key = key.try_into().map_err(|_| io::Error::new(io::ErrorKind::InvalidData, "a key has 16 bytes"))?;
+    let signer = Signer { own, key };
+    let mut liar = Liar {
+        net: Net::start(folder, N, &signer, None)?,
+        own,
+        protocol: crate::protocol(),
+        replica: Replica::open(SETTINGS, u64::from(own)).map_err(io::Error::other)?,
+        signatures: Signatures::new(signer, u32::from(N), []),
+        blocks: Blocks::default(),
+        recent: Vec::new(),
+        seen: Vec::new(),
+        led: 0,
+        random: Random::new(seed),
+    };
+    loop {
+        match liar.net.events.recv_timeout(TICK) {
+            Ok(Event::Frame { bytes, .. }) => liar.hear(&bytes),
+            Ok(Event::Connected(_)) => {}
+            Err(RecvTimeoutError::Timeout) => liar.idle(),
+            Err(RecvTimeoutError::Disconnected) => return Ok(()),
+        }
+        liar.lead();
+    }
+}
+
+impl Liar {
+    // ------------------------------------------------------------ what it learns
+
+    fn hear(&mut self, bytes: &[u8]) {
+        let Some(frame) = Frame::decode(bytes) else { return };
+        match &frame {
+            Frame::Record { record, signatures, contents } => {
+                self.signatures.learn(card::statements(record, u32::from(N)), signatures);
+                self.hold(*contents);
+                self.hand_in(record);
+                self.remember(frame);
+            }
+            Frame::Ask { name, .. } => self.mislead(self.blocks.get(name).copied()),
+            Frame::Chain(_) => {}
+        }
+        if self.random.chance(5) {
+            self.disturb();
+        }
+    }
+
+    fn remember(&mut self, frame: Frame) {
+        self.seen.push(frame);
+        if self.seen.len() > SEEN {
+            let forgotten = self.random.index(SEEN);
+            self.seen.swap_remove(forgotten);
+        }
+    }
+
+    /// Its own replica takes a block.
+    fn hold(&mut self, contents: Option<Contents>) {
+        let Some(contents) = contents.filter(|contents| !self.blocks.has(&contents.name())) else { return };
+        let mut record = Vec::new();
+        wire::write_block(&mut record, self.own, &contents.block());
+        self.hand_in(&record);
+        self.blocks.learn(contents);
+        self.recent.push(contents);
+        let over = self.recent.len().saturating_sub(RECENT);
+        self.recent.drain(..over);
+    }
+
+    fn hand_in(&mut self, record: &[u8]) {
+        let output = written(self.replica.record(record));
+        self.retell(&output);
+    }
+
+    /// Clocks run out early.
+    fn idle(&mut self) {
+        if self.random.chance(2) {
+            let output = written(self.replica.timer(self.replica.view()));
+            self.retell(&output);
+        }
+        if self.random.chance(30) {
+            self.disturb();
+        }
+    }
+
+    // ------------------------------------------------------------ what it sends
+
+    fn send(&self, to: u16, frame: &Frame) {
+        self.send_bytes(to, frame.encode());
+    }
+
+    fn send_bytes(&self, to: u16, bytes: Vec<u8>) {
+        self.net.send(to, &Arc::from(bytes));
+    }
+
+    fn others(&self) -> impl Iterator<Item = u16> {
+        let own = self.own;
+        (0..N).filter(move |to| *to != own)
+    }
+
+    fn another(&mut self) -> u16 {
+        (self.own + self.random.between(1, u64::from(N) - 1) as u16) % N
+    }
+
+    /// A record with the signatures that it can give; the others are made up.
+    fn frame(&mut self, record: Vec<u8>, contents: Option<Contents>) -> Frame {
+        let statements = card::statements(&record, u32::from(N));
+        let mut signatures = Vec::new();
+        for statement in &statements {
+            signatures.push(self.signatures.find(statement).unwrap_or_else(|| made_up(&mut self.random)));
+        }
+        Frame::Record { record, signatures, contents }
+    }
+
+    /// A vote or commit for any block.
+    fn ballot(&mut self, kind: u16, view: View, contents: Contents) -> Frame {
+        let vote = Vote { view, name: contents.name() };
+        let mut record = Vec::new();
+        if kind == kind::VOTE {
+            wire::write_vote(&mut record, self.own, vote);
+        } else {
+            wire::write_commit(&mut record, self.own, vote);
+        }
+        self.frame(record, (kind == kind::VOTE).then_some(contents))
+    }
+
+    /// Its replica's output, told to each in another way.
+    fn retell(&mut self, output: &[u8]) {
+        for record in wire::records(output) {
+            match wire::kind_of(record) {
+                kind::VOTE | kind::COMMIT => self.retell_ballot(record),
+                kind::TIMEOUT => self.retell_timeout(record),
+                kind::RELEASE => {}
+                _ => self.retell_to_some(record),
+            }
+        }
+    }
+
+    fn retell_to_some(&mut self, record: &[u8]) {
+        let frame = self.frame(record.to_vec(), None);
+        for to in self.others() {
+            if self.random.chance(50) {
+                self.send(to, &frame);
+            }
+        }
+    }
+
+    /// The vote, another one, both or none.
+    fn retell_ballot(&mut self, record: &[u8]) {
+        let Some(true_block) = self.blocks.get(&wire::name_at(record, 16)).copied() else { return };
+        let (kind, view) = (wire::kind_of(record), View(wire::u64_at(record, 8)));
+        for to in self.others() {
+            let other_block = self.any_block(true_block);
+            let ballots = [true_block, other_block].map(|block| self.ballot(kind, view, block));
+            let chosen: &[usize] = self.random.pick(&[&[0][..], &[1], &[0, 1], &[1, 0], &[]]);
+            for &ballot in chosen {
+                self.send(to, &ballots[ballot]);
+            }
+        }
+    }
+
+    /// A block to lie about: a twin of the true one, or one of before.
+    fn any_block(&mut self, block: Contents) -> Contents {
+        if self.recent.is_empty() || self.random.chance(50) {
+            return twin(block);
+        }
+        self.random.pick(&self.recent)
+    }
+
+    /// Timeouts with false high votes and other certificates.
+    fn retell_timeout(&mut self, record: &[u8]) {
+        let timeout = wire::read_timeout(record);
+        for to in self.others() {
+            if self.random.chance(25) {
+                continue;
+            }
+            let high_vote = self.false_high_vote(timeout.view, timeout.high_vote);
+            let forged = Certificate::block(timeout.view, high_vote.name, 0b111111);
+            let certificate = self.random.weighted(&[(4, timeout.certificate), (4, Certificate::GENESIS), (2, forged)]);
+            let lie = oracle::Timeout { high_vote, certificate, ..timeout };
+            let frame = self.frame(wire::raw_timeout(&lie).to_vec(), None);
+            self.send(to, &frame);
+        }
+    }
+
+    fn false_high_vote(&mut self, view: View, true_vote: Vote) -> Vote {
+        if self.recent.is_empty() {
+            return true_vote;
+        }
+        let block = self.random.pick(&self.recent);
+        let other = Vote { view, name: block.name() };
+        let twins = Vote { view, name: twin(block).name() };
+        self.random.pick(&[true_vote, Vote::NONE, other, twins])
+    }
+
+    // ------------------------------------------------------------ its own view
+
+    /// In its view: two blocks, each shown to some, and votes for both; a block with a wrong parent; or nothing.
+    fn lead(&mut self) {
+        let view = View(self.replica.view().0);
+        if self.protocol.settings.leader(view) != self.own || self.led >= view.0 {
+            return;
+        }
+        self.led = view.0;
+        let entry = entry_record(&self.replica);
+        let parent = match wire::read_progress(&entry) {
+            Progress::Block(certificate) => certificate.name,
+            Progress::Timeouts(certificate) => self.protocol.safe_certificate(certificate.timeouts).name,
+        };
+        let Some(height) = self.blocks.height(&parent) else { return };
+        let block = Contents { parent, height: height + 1, view: view.0, payload: self.random.number() };
+        match self.random.below(4) {
+            0 => {}
+            1 => self.propose(view, [block, Contents { parent: GENESIS, height: 1, ..block }], &entry),
+            _ => self.propose(view, [block, twin(block)], &entry),
+        }
+    }
+
+    fn propose(&mut self, view: View, blocks: [Contents; 2], entry: &[u8]) {
+        let proposals = blocks.map(|block| {
+            let mut record = Vec::new();
+            wire::write_proposal(&mut record, self.own, view, &block.block(), entry);
+            self.frame(record, Some(block))
+        });
+        let votes = blocks.map(|block| self.ballot(kind::VOTE, view, block));
+        for to in self.others() {
+            let shown = self.random.index(2);
+            self.send(to, &proposals[shown]);
+            self.send(to, &votes[shown]);
+            self.send(to, &votes[1 - shown]);
+        }
+        blocks.into_iter().for_each(|block| self.hold(Some(block)));
+    }
+
+    // ------------------------------------------------------------ noise
+
+    /// A wrong answer to one who asks for blocks.
+    fn mislead(&mut self, block: Option<Contents>) {
+        let Some(block) = block else { return };
+        let to = self.another();
+        self.send(to, &Frame::Chain(vec![block, twin(block)]));
+    }
+
+    /// Something that no honest process sends.
+    fn disturb(&mut self) {
+        let to = self.another();
+        let length = self.random.index(150);
+        let noise: Vec<u8> = (0..length).map(|_| self.random.number() as u8).collect();
+        let frame = match self.random.below(6) {
+            0 => return self.send_bytes(to, [&(length as u32).to_le_bytes()[..], &noise].concat()),
+            1 => Frame::Record { record: noise, signatures: Vec::new(), contents: None },
+            2 => self.headed_noise(noise),
+            3 => self.damaged(),
+            4 => self.forged(),
+            _ => self.misnamed(),
+        };
+        self.send(to, &frame);
+    }
+
+    /// A record with a fitting length field, any kind and any content.
+    fn headed_noise(&mut self, noise: Vec<u8>) -> Frame {
+        let mut record = noise;
+        record.resize(self.random.pick(&[8, 48, 56, 80, 112, 144]), 0);
+        let length = record.len() as u32;
+        record[..4].copy_from_slice(&length.to_le_bytes());
+        record[4..6].copy_from_slice(&(self.random.below(13) as u16).to_le_bytes());
+        record[6..8].copy_from_slice(&self.own.to_le_bytes());
+        self.frame(record, None)
+    }
+
+    /// What another sent: as it was, or with a byte changed.
+    fn damaged(&mut self) -> Frame {
+        if self.seen.is_empty() {
+            return Frame::Ask { above: 0, name: GENESIS };
+        }
+        let place = self.random.index(self.seen.len());
+        let mut frame = self.seen[place].clone();
+        if let Frame::Record { record, .. } = &mut frame {
+            if self.random.chance(70) && !record.is_empty() {
+                let at = self.random.index(record.len());
+                record[at] ^= 1 << self.random.below(8);
+            }
+        }
+        frame
+    }
+
+    /// A certificate of votes that nobody gave, with made up signatures.
+    fn forged(&mut self) -> Frame {
+        let name = self.recent.last().map_or([1; 32], |block| twin(*block).name());
+        let certificate = Certificate::block(View(self.replica.view().0), name, 0b111111);
+        let mut record = Vec::new();
+        wire::write_block_certificate(&mut record, self.own, &certificate);
+        self.frame(record, None)
+    }
+
+    /// A vote whose block isn't what the name says.
+    fn misnamed(&mut self) -> Frame {
+        let block = self.recent.last().copied().map_or(FIRST, twin);
+        match self.ballot(kind::VOTE, View(self.replica.view().0), block) {
+            Frame::Record { record, signatures, .. } => {
+                let contents = Contents { height: block.height + 1, ..block };
+                Frame::Record { record, signatures, contents: Some(contents) }
+            }
+            frame => frame,
+        }
+    }
+}
+
+const FIRST: Contents = Contents { parent: GENESIS, height: 1, view: 1, payload: 0 };
+
+/// Another block with the same parent, height and view.
+fn twin(block: Contents) -> Contents {
+    Contents { payload: !block.payload, ..block }
+}
+
+fn made_up(random: &mut Random) -> Signature {
+    let halves = [random.number(), random.number()].map(u64::to_le_bytes);
+    halves.concat().try_into().unwrap_or_default()
+}
+
+/// What its replica wrote; it is never resumed.
+fn written(reply: Result<replica::Accepted<'_>, Refusal>) -> Vec<u8> {
+    reply.map_or_else(|_| Vec::new(), |accepted| accepted.unsaved().bytes().to_vec())
+}

@@ -1,0 +1,101 @@
+//! `cluster run` plays one cluster; the other subcommands are its processes.
+
+use std::error::Error;
+use std::io::{self, Read};
+use std::path::PathBuf;
+use std::process::ExitCode;
+use std::time::Duration;
+use std::{env, fs, process, thread};
+
+use cluster::host::{Breach, Halt, Host, Options, Point};
+use cluster::supervisor::{self, Plan};
+use cluster::{byzantine, keys_file};
+
+const USAGE: &str = "usage:
+  cluster run [--seed S] [--releases N] [--deadline SECONDS] [--no-faults] [--sync] [--breach BREACH]
+  cluster replica FOLDER OWN [--sync] [--halt CALL called|written|saved] [--breach BREACH]
+  cluster byzantine FOLDER OWN SEED
+where BREACH is sends-first or forgets";
+
+type Words = std::iter::Skip<env::Args>;
+
+fn main() -> ExitCode {
+    let mut words = env::args().skip(1);
+    let done = match words.next().as_deref() {
+        Some("run") => run(words),
+        Some("replica") => replica(words),
+        Some("byzantine") => lie(words),
+        _ => Err(USAGE.into()),
+    };
+    match done {
+        Ok(()) => ExitCode::SUCCESS,
+        Err(error) => {
+            eprintln!("{error}");
+            ExitCode::FAILURE
+        }
+    }
+}
+
+/// The next word, read as a value.
+fn next<T: std::str::FromStr>(words: &mut Words) -> Result<T, Box<dyn Error>> {
+    words.next().and_then(|word| word.parse().ok()).ok_or_else(|| USAGE.into())
+}
+
+fn breach(words: &mut Words) -> Result<Breach, Box<dyn Error>> {
+    words.next().and_then(|word| Breach::of(&word)).ok_or_else(|| USAGE.into())
+}
+
+fn run(mut words: Words) -> Result<(), Box<dyn Error>> {
+    let deadline = Duration::from_secs(20);
+    let binary = env::current_exe()?;
+    let mut plan = Plan { binary, seed: 1, faults: true, releases: 20, deadline, sync: false, breach: None };
+    while let Some(word) = words.next() {
+        match word.as_str() {
+            "--seed" => plan.seed = next(&mut words)?,
+            "--releases" => plan.releases = next(&mut words)?,
+            "--deadline" => plan.deadline = Duration::from_secs(next(&mut words)?),
+            "--no-faults" => plan.faults = false,
+            "--sync" => plan.sync = true,
+            "--breach" => plan.breach = Some(breach(&mut words)?),
+            _ => return Err(USAGE.into()),
+        }
+    }
+    println!("{}", supervisor::run(&plan)?);
+    Ok(())
+}
+
+fn replica(mut words: Words) -> Result<(), Box<dyn Error>> {
+    end_with_input();
+    let folder: PathBuf = next(&mut words)?;
+    let mut options = Options { folder, own: next(&mut words)?, sync: false, halt: None, breach: None };
+    while let Some(word) = words.next() {
+        match word.as_str() {
+            "--sync" => options.sync = true,
+            "--halt" => {
+                let call = next(&mut words)?;
+                let point = words.next().and_then(|word| Point::of(&word)).ok_or(USAGE)?;
+                options.halt = Some(Halt { call, point });
+            }
+            "--breach" => options.breach = Some(breach(&mut words)?),
+            _ => return Err(USAGE.into()),
+        }
+    }
+    let keys = fs::read(keys_file(&options.folder))?;
+    let keys = keys.as_chunks().0.to_vec();
+    Ok(Host::start(options, keys)?.run()?)
+}
+
+fn lie(mut words: Words) -> Result<(), Box<dyn Error>> {
+    end_with_input();
+    let folder: PathBuf = next(&mut words)?;
+    let (own, seed) = (next(&mut words)?, next(&mut words)?);
+    Ok(byzantine::run(&folder, own, seed)?)
+}
+
+/// Ends the process when its standard input ends: the supervisor is gone.
+fn end_with_input() {
+    thread::spawn(|| {
+        _ = io::stdin().read_to_end(&mut Vec::new());
+        process::exit(0);
+    });
+}

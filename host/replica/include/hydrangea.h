@@ -1,0 +1,129 @@
+/*
+ * One replica of the voting core as a step machine over bytes: the calls of the proved library.
+ *
+ * The host lends every region for the time of a call; the library keeps no pointer, allocates nothing and has no
+ * state of its own. Regions must not overlap. A slice crosses as a pointer and a length: in bytes, for the store in
+ * blocks. What is shorter than the lengths below is answered with refusal 2; of longer regions the rest is left
+ * alone. No pointer may be null, and counters and store are aligned for a uint64_t. docs/INTERFACE.md has the
+ * records and the layouts.
+ *
+ * Every call answers with a refusal, 0 for acceptance, and the number of bytes written. A refused call changes no
+ * byte. An accepted one writes whole records to the front of the output and leaves the bytes after them.
+ *
+ * What one chain asks of the host:
+ * - each number is opened once, in all replicas with the same settings;
+ * - a record is handed in only after its signatures were checked, those of its inner timeouts and of each
+ *   certificate's signers too;
+ * - a name has one parent and one height: it is a hash over both;
+ * - counters, memory and store are saved before any output byte of the call is sent, and a replica resumes only from
+ *   what its last finished call left;
+ * - of the output, kind 6 goes to the leader of the next view, kind 9 (a release) to the host itself, all else to
+ *   every other replica.
+ *
+ * On the deepest inputs known a call takes under 160 KiB of stack.
+ */
+#ifndef HYDRANGEA_H
+#define HYDRANGEA_H
+
+#include <stddef.h>
+#include <stdint.h>
+
+#ifdef __cplusplus
+extern "C" {
+#endif
+
+/* The least lengths: memory in bytes, store in blocks, output in bytes. */
+#define HYDRANGEA_MEMORY 34504
+#define HYDRANGEA_STORE 128
+#define HYDRANGEA_OUTPUT 32768
+
+/* A block's name. All zero is genesis. */
+typedef struct hydrangea_name {
+    uint8_t bytes[32];
+} hydrangea_name;
+
+/* A block without its contents. */
+typedef struct hydrangea_block {
+    hydrangea_name name;
+    hydrangea_name parent;
+    uint64_t height;
+} hydrangea_block;
+
+/* A vote. View 0 is none. */
+typedef struct hydrangea_vote {
+    uint64_t view;
+    hydrangea_name name;
+} hydrangea_vote;
+
+/* A certificate. Bit i of signers stands for replica i. */
+typedef struct hydrangea_signed {
+    uint64_t view;
+    hydrangea_name name;
+    uint64_t signers;
+} hydrangea_signed;
+
+/* The replica's counters, which every accepted call updates. */
+typedef struct hydrangea_counters {
+    uint64_t view;
+    uint64_t timed;        /* the highest view that a timeout was sent for */
+    hydrangea_vote high;   /* the last vote sent */
+    hydrangea_signed lock; /* the highest block certificate adopted */
+    hydrangea_signed weak; /* the highest weak certificate adopted; view 0 is none */
+    hydrangea_block tip;   /* the last block released */
+} hydrangea_counters;
+
+/* 0 or a refusal, 1 to 15, and how many bytes of output were written. */
+typedef struct hydrangea_reply {
+    uint64_t refusal;
+    size_t written;
+} hydrangea_reply;
+
+/*
+ * Opens the replica `own` of a cluster of n = 3f + 2c + k + 1 in what is lent, whatever stood there. Refusals 1
+ * (settings) and 2 (a region is too short). The store's entries are left as they are; nothing is written to send.
+ */
+hydrangea_reply hydrangea_open(hydrangea_counters *counters, uint8_t *memory, size_t memory_length,
+                               const hydrangea_block *store, size_t store_length, uint64_t f, uint64_t c, uint64_t k,
+                               uint64_t n, uint64_t own);
+
+/* Takes a record of any bytes, with its signatures checked. Refusals 2 to 14. */
+hydrangea_reply hydrangea_record(hydrangea_counters *counters, uint8_t *memory, size_t memory_length,
+                                 hydrangea_block *store, size_t store_length, uint8_t *output, size_t output_length,
+                                 const uint8_t *record, size_t record_length);
+
+/* The clock of a view ran out: a timeout is sent. Refusals 2, 7, 8 (not the current view) and 10 (sent already). */
+hydrangea_reply hydrangea_timer(hydrangea_counters *counters, uint8_t *memory, size_t memory_length,
+                                hydrangea_block *store, size_t store_length, uint8_t *output, size_t output_length,
+                                uint64_t view);
+
+/*
+ * Proposes a block of this name in the current view, on the safe block of the certificate by which the view was
+ * entered. Refusals 2, 15 (not this replica's turn), 5, 11, 12, 13 and 14.
+ */
+hydrangea_reply hydrangea_propose(hydrangea_counters *counters, uint8_t *memory, size_t memory_length,
+                                  hydrangea_block *store, size_t store_length, uint8_t *output, size_t output_length,
+                                  hydrangea_name name);
+
+/* The library was built for these sizes: no struct has a gap. In C99 a wrong one is an array of negative length. */
+#if defined(__cplusplus) && __cplusplus >= 201103L
+#define HYDRANGEA_SIZE(type, size) static_assert(sizeof(type) == (size), #type " has another size")
+#elif defined(__STDC_VERSION__) && __STDC_VERSION__ >= 201112L
+#define HYDRANGEA_SIZE(type, size) _Static_assert(sizeof(type) == (size), #type " has another size")
+#else
+#define HYDRANGEA_SIZE(type, size) typedef char type##_has_its_size[sizeof(type) == (size) ? 1 : -1]
+#endif
+
+HYDRANGEA_SIZE(hydrangea_name, 32);
+HYDRANGEA_SIZE(hydrangea_block, 72);
+HYDRANGEA_SIZE(hydrangea_vote, 40);
+HYDRANGEA_SIZE(hydrangea_signed, 48);
+HYDRANGEA_SIZE(hydrangea_counters, 224);
+HYDRANGEA_SIZE(hydrangea_reply, 16);
+
+#undef HYDRANGEA_SIZE
+
+#ifdef __cplusplus
+}
+#endif
+
+#endif

@@ -1,0 +1,131 @@
+//! The library from C: the examples are compiled, linked and run, and the header is read as C99, C11 and C++.
+
+use std::fs;
+use std::mem::offset_of;
+use std::path::{Path, PathBuf};
+use std::process::{Command, Output};
+
+use replica::{raw, Block, Certificate, Counters, Vote};
+
+const STRICT: [&str; 4] = ["-Wall", "-Wextra", "-Werror", "-O2"];
+const OPEN: &str = "0 0 10\n";
+const SANITIZER: [&str; 3] = ["-fsanitize=address,undefined", "-fno-sanitize-recover=all", "-DGUARD=0"];
+
+fn folder() -> &'static Path {
+    Path::new(env!("CARGO_MANIFEST_DIR"))
+}
+
+fn root() -> PathBuf {
+    folder().join("../..")
+}
+
+fn gcc() -> Command {
+    let mut gcc = Command::new("gcc");
+    gcc.args(STRICT).arg("-I").arg(folder().join("include"));
+    gcc
+}
+
+fn output(command: &mut Command) -> Output {
+    command.output().unwrap_or_else(|error| panic!("{command:?} can't be run: {error}"))
+}
+
+/// What a command wrote; it must succeed.
+fn text(command: &mut Command) -> String {
+    let Output { status, stdout, stderr } = output(command);
+    assert!(status.success(), "{command:?}: {status}\n{}", String::from_utf8_lossy(&stderr));
+    String::from_utf8(stdout).expect("text")
+}
+
+/// Compiles an example with these flags, links the library and runs it.
+fn run(example: &str, suffix: &str, flags: &[&str]) -> String {
+    let program = Path::new(env!("CARGO_TARGET_TMPDIR")).join(format!("{example}{suffix}"));
+    let source = folder().join("examples").join(example).with_extension("c");
+    text(gcc().args(flags).arg(source).arg("-o").arg(&program).arg(root().join("target/staticlib/libreplica.a")));
+    text(&mut Command::new(program))
+}
+
+/// Each replica of six released one block and went on to the second view.
+fn all_released() -> String {
+    (0..6).map(|own| format!("{own}: released 1, height 1, view 2\n")).collect()
+}
+
+#[test]
+fn the_examples_run() {
+    assert_eq!(run("open", "", &["-std=c11"]), OPEN);
+    assert_eq!(run("records", "", &["-std=c11"]), all_released());
+}
+
+/// Regions of exactly their lengths, so that the sanitizer sees an overrun by the C code; the library's own code isn't
+/// instrumented.
+#[test]
+fn the_examples_run_sanitized() {
+    let flags = [&["-std=c11"], &SANITIZER[..]].concat();
+    assert_sanitizer();
+    assert_eq!(run("open", "-sanitized", &flags), OPEN);
+    assert_eq!(run("records", "-sanitized", &flags), all_released());
+}
+
+/// The sanitizer is there, and it stops a program that writes behind a region.
+fn assert_sanitizer() {
+    let program = Path::new(env!("CARGO_TARGET_TMPDIR")).join("overrun");
+    let source = program.with_extension("c");
+    let overrun = "#include <stdlib.h>\nint main(int count, char **words) \
+        { char *a = calloc((size_t)count, 8); a[8 * count] = words[0][0]; return a[0]; }";
+    fs::write(&source, overrun).expect("a file in cargo's folder");
+    let built = output(gcc().args(SANITIZER).arg(&source).arg("-o").arg(&program));
+    let reason = String::from_utf8_lossy(&built.stderr);
+    assert!(built.status.success(), "gcc has no address and undefined behaviour sanitizer here: {reason}");
+    let ran = output(&mut Command::new(&program));
+    let report = String::from_utf8_lossy(&ran.stderr);
+    assert!(report.contains("heap-buffer-overflow"), "the sanitizer doesn't work here: {} {report}", ran.status);
+}
+
+#[test]
+fn the_header_is_c_and_cpp() {
+    let header = folder().join("include/hydrangea.h");
+    for (language, standard) in
+        [("c", "-std=c99"), ("c", "-std=c11"), ("c++", "-std=c++98"), ("c++", "-std=c++11"), ("c++", "-std=c++17")]
+    {
+        text(gcc().args(["-x", language, standard, "-pedantic", "-fsyntax-only"]).arg(&header));
+    }
+}
+
+/// Lengths, and the place of every field, are those of the Rust side.
+#[test]
+fn the_header_has_the_layout() {
+    let facts = [
+        ("HYDRANGEA_MEMORY", raw::MEMORY),
+        ("HYDRANGEA_STORE", raw::STORE),
+        ("HYDRANGEA_OUTPUT", raw::OUTPUT),
+        ("offsetof(hydrangea_block, name)", offset_of!(Block, name)),
+        ("offsetof(hydrangea_block, parent)", offset_of!(Block, parent)),
+        ("offsetof(hydrangea_block, height)", offset_of!(Block, height)),
+        ("offsetof(hydrangea_vote, view)", offset_of!(Vote, view)),
+        ("offsetof(hydrangea_vote, name)", offset_of!(Vote, name)),
+        ("offsetof(hydrangea_signed, view)", offset_of!(Certificate, view)),
+        ("offsetof(hydrangea_signed, name)", offset_of!(Certificate, name)),
+        ("offsetof(hydrangea_signed, signers)", offset_of!(Certificate, signers)),
+        ("offsetof(hydrangea_counters, view)", offset_of!(Counters, view)),
+        ("offsetof(hydrangea_counters, timed)", offset_of!(Counters, timed)),
+        ("offsetof(hydrangea_counters, high)", offset_of!(Counters, high_vote)),
+        ("offsetof(hydrangea_counters, lock)", offset_of!(Counters, lock)),
+        ("offsetof(hydrangea_counters, weak)", offset_of!(Counters, best_weak)),
+        ("offsetof(hydrangea_counters, tip)", offset_of!(Counters, tip)),
+        ("offsetof(hydrangea_reply, refusal)", offset_of!(raw::Reply, refusal)),
+        ("offsetof(hydrangea_reply, written)", offset_of!(raw::Reply, written)),
+    ];
+    let asserted = facts.map(|(what, number)| format!("_Static_assert({what} == {number}, \"{what}\");\n"));
+    let source = Path::new(env!("CARGO_TARGET_TMPDIR")).join("layout.c");
+    fs::write(&source, format!("#include \"hydrangea.h\"\n{}", asserted.concat())).expect("a file in cargo's folder");
+    text(gcc().args(["-std=c11", "-fsyntax-only"]).arg(&source));
+}
+
+/// A C program printed in docs/INTERFACE.md is `open.c`.
+#[test]
+fn the_documented_program_is_the_example() {
+    let interface = fs::read_to_string(root().join("docs/INTERFACE.md")).expect("docs/INTERFACE.md");
+    let Some((_, printed)) = interface.split_once("```c\n") else { return };
+    let (printed, _) = printed.split_once("```").expect("the end of the program");
+    let example = fs::read_to_string(folder().join("examples/open.c")).expect("the example");
+    assert_eq!(printed, example);
+}
