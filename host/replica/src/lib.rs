@@ -52,3 +52,8 @@ pub use record::{Content, Progress, Proposal, Receiver, Record, Release, Timeout
 pub use refusal::Refusal;
 pub use replica::{Accepted, Output, Replica};
 pub use types::{Block, Certificate, Counters, Height, Name, Settings, View, Vote};
+
+/// The example of `docs/INTERFACE.md` is run as it is printed there.
+#[cfg(doctest)]
+#[doc = include_str!("../../../docs/INTERFACE.md")]
+struct Interface;
