@@ -6,15 +6,15 @@
     'requires': '{good} ≡ descendsOf {tip} (take {count} {ys}) {last}',
     'callees': {
         'blocks::held': {'ens': 'r ≡ heldOf {2} (take {1} {0}) {3}'},
-        'blocks::step_known': {'ens': 'r ≡ shortened {3} {4} (onwardOf {0} {1} {2})'},
+        'blocks::step_known': {'ens': 'r ≡ shortened {3} {4} {1} (onwardOf {0} {1} {2})'},
         'blocks::descends': {'ens': 'r ≡ descendsOf {2} (take {1} {0}) {3}'},
     },
     'lets': [
         [
-            ('way', 'r1 ≡ shortened last good (onwardOf tip b (heldOf tip (take count ys) (b .parent)))', 'e1 ∙ ap (λ (z : Found). shortened last good (onwardOf tip b z)) e0'),
+            ('way', 'r1 ≡ shortened last good b (onwardOf tip b (heldOf tip (take count ys) (b .parent)))', 'e1 ∙ ap (λ (z : Found). shortened last good b (onwardOf tip b z)) e0'),
         ],
         [
-            ('way', 'r1 ≡ shortened last good (onwardOf tip b (heldOf tip (take count ys) (b .parent)))', 'e1 ∙ ap (λ (z : Found). shortened last good (onwardOf tip b z)) e0'),
+            ('way', 'r1 ≡ shortened last good b (onwardOf tip b (heldOf tip (take count ys) (b .parent)))', 'e1 ∙ ap (λ (z : Found). shortened last good b (onwardOf tip b z)) e0'),
         ],
     ],
     'says': [

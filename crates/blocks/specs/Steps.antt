@@ -1,6 +1,6 @@
 -- One step of the walk from parent to parent, and of the drop. Assumes nothing.
 use Prim.Native.Nat.{ℕ, _+_, _-_, _^_}
-use mathlib.Core.Bool.{Bool, true, false, cond, _&&_}
+use mathlib.Core.Bool.{Bool, true, false, cond, _&&_, _||_}
 use mathlib.Core.List.{List}
 use lib.Dec.{eqb}
 use lib.ListN.{drop}
@@ -20,12 +20,12 @@ onwardOf tip b c = record {
 }
 
 -- the same height and the same parent: what lies below two such blocks is the same
-abbrev pub alike : Block → Block → Bool
+unfoldable pub alike : Block → Block → Bool
 alike a b = eqb (a .height .0) (b .height .0) && sameBytes (a .parent) (b .parent)
 
--- the step s, where good says whether the block last descends: where it would go on at a block like last, it ends here, as last does
-unfoldable pub shortened : Block → Bool → Onward → Onward
-shortened last good s = cond (s .goes && alike (s .block) last) (record { goes = false; ends = good; block = s .block }) s
+-- the step s from b, where good says whether the block last descends: where b is like last, or it would go on at a block like last, it ends here, as last does
+unfoldable pub shortened : Block → Bool → Block → Onward → Onward
+shortened last good b s = cond (alike b last || (s .goes && alike (s .block) last)) (record { goes = false; ends = good; block = s .block }) s
 
 -- the kept entries from place i on
 unfoldable pub keptFrom : Block → List Block → ℕ → List Block

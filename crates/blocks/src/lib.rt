@@ -11,7 +11,7 @@ ghost use lib.Seq.{sets};
 ghost use Rattle.codec.specs.Bytes.{patch};
 ghost use Rattle.codec.specs.Names.{sameBytes};
 ghost use Rattle.wire.specs.Encode.{releaseBytes};
-ghost use Rattle.blocks.specs.Steps.{onwardOf, shortened, keptFrom, spotOf};
+ghost use Rattle.blocks.specs.Steps.{onwardOf, alike, shortened, keptFrom, spotOf};
 ghost use Rattle.blocks.specs.Store.{genesis, found, missing, find, held, descends, ancestry, releases, kept, dropped};
 use settings::Height;
 use settings::View;
@@ -161,22 +161,36 @@ pub fn descends(store: &[Block], count: usize, tip: Block, b: Block) -> bool
     }
 }
 
-// The step from b, where `good` says whether the block `last` descends: where it would go on at a block with the height and the parent of `last`, it
-// ends as `last` does, since nothing else of a block bears on that.
+// The same height and the same parent. Nothing else of a block bears on whether it descends.
+fn alike(a: Block, b: Block) -> bool
+    ensures { λ r. ⌜ r ≡ alike a b ⌝ }
+{
+    let p = a.parent;
+    let q = b.parent;
+    if a.height.0 == b.height.0 {
+        return codec::name::same(p, q);
+    }
+    false
+}
+
+// The step from b, where `good` says whether the block `last` descends: where b is like `last`, or it would go on at a block like `last`, it ends as
+// `last` does.
 fn step_known(tip: Block, b: Block, c: Found, last: Block, good: bool) -> Onward
-    ensures { λ r. ⌜ r ≡ shortened last good (onwardOf tip b c) ⌝ }
+    ensures { λ r. ⌜ r ≡ shortened last good b (onwardOf tip b c) ⌝ }
 {
     let s = step(tip, b, c);
     let d = s.block;
-    let p = d.parent;
-    let q = last.parent;
+    if alike(b, last) {
+        return Onward {
+            goes: false,
+            ends: good,
+            block: d,
+        };
+    }
     if !s.goes {
         return s;
     }
-    if d.height.0 != last.height.0 {
-        return s;
-    }
-    if codec::name::same(p, q) {
+    if alike(d, last) {
         return Onward {
             goes: false,
             ends: good,
@@ -186,7 +200,7 @@ fn step_known(tip: Block, b: Block, c: Found, last: Block, good: bool) -> Onward
     s
 }
 
-// Whether b descends, as `descends` says it, in one scan of the store where b's parent is `last` or a sibling of `last`.
+// Whether b descends, as `descends` says it, in one scan of the store where b or its parent is `last` or a sibling of `last`.
 fn judged(store: &[Block], count: usize, tip: Block, b: Block, last: Block, good: bool) -> bool
     requires { ⌜ good ≡ descends tip (take count (now store)) last ⌝ }
     ensures { λ r. ⌜ r ≡ descends tip (take count (now (store .entry))) b ⌝ }

@@ -74,16 +74,16 @@ module _ {M : Type 1} (𝓤 : URA M) (H : Heap 𝓤) (A : Atoms 𝓤) (W : Given
       use1 W (‵ (Shr Blockᴿ κ0 ys-b ys-o ys-γ ys-n ys) ⊛ ‵ (Shr Blockᴿ κ0 ys-b ys-o ys-γ ys-n ys)) (shr-slice-copy 𝓤 H A W (named 0) κ0 Blockᴿ .twice (lying Blockᴿ ys-b ys-o ys-γ ys) (ys-s ∷ [])) $ split ! $
       let y0 : heldᶜ 𝓤 H A mem run .Ghost = (((κ0, tt), (q0, tt), tt, (lying Blockᴿ ys-b ys-o ys-γ ys, (count, (tip, ((b .parent), tt)))), (ys-s ∷ [], ((word .val count) ∷ [], ((Blockᴰ .val tip) ∷ [], (((bytes 32) .val (b .parent)) ∷ [], tt))))), tt) in move ! (2 ∷ 0 ∷ []) $ asks ! held.ended (held.clauses 𝓤 H A mem run) y0 2 (held (of W word count count-is (of W Blockᴰ tip tip-is (of W (bytes 32) (b .parent) (Block-parent b b-is) end)))) refl (id⊢ 𝓤 _) $ calls-at ! fm (heldᶜ 𝓤 H A mem run) (known .0) y0 (and-then ! (load ! (from ! (stop !)) (look ! 24 refl)) (and-then ! (load ! (from ! (stop !)) (look ! 22 refl)) (and-then ! (load ! (from ! (stop !)) (look ! 20 refl)) (and-then ! (load ! (from ! (stop !)) (look ! 12 refl)) (no-more !))))) (λ w0. came ! held.ended (held.clauses 𝓤 H A mem run) y0 w0 Foundᴰ 9 refl refl ([]) (λ r ws. r ≡ heldOf tip (take count ys) (b .parent)) (λ r ws. id⊢ 𝓤 _) (λ r0 ws0 is0 e0.
       -- call 1: `blocks::step_known`
-      let y1 : step-knownᶜ 𝓤 H A mem run .Ghost = ((tt, tt, tt, (tip, (b, (r0, (last, (good, tt))))), ((Blockᴰ .val tip) ∷ [], ((Blockᴰ .val b) ∷ [], ((Foundᴰ .val r0) ∷ [], ((Blockᴰ .val last) ∷ [], ((flag .val good) ∷ [], tt)))))), tt) in asks ! step-known.ended (step-known.clauses 𝓤 H A mem run) y1 0 (of W Blockᴰ tip tip-is (of W Blockᴰ b b-is (of W Foundᴰ r0 is0 (of W Blockᴰ last last-is (of W flag good good-is end))))) refl (id⊢ 𝓤 _) $ calls-at ! fm (step-knownᶜ 𝓤 H A mem run) (known .1 .0) y1 (and-then ! (load ! (from ! (stop !)) (look ! 21 refl)) (and-then ! (load ! (from ! (stop !)) (look ! 19 refl)) (and-then ! (load ! (from ! (stop !)) (look ! 11 refl)) (and-then ! (load ! (from ! (stop !)) (look ! 17 refl)) (and-then ! (load ! (from ! (stop !)) (look ! 15 refl)) (no-more !)))))) (λ w1. came ! step-known.ended (step-known.clauses 𝓤 H A mem run) y1 w1 Onwardᴰ 8 refl refl ([]) (λ r ws. r ≡ shortened last good (onwardOf tip b r0)) (λ r ws. id⊢ 𝓤 _) (λ r1 ws1 is1 e1. assigns ! (of-opd ! (load ! (from ! (fld ! refl (stop !))) (look-in ! 8 (sub ! 0 refl (whole !))))) (from ! (stop !)) (init ! 4 refl (fits W flag (r1 .goes) (Onward-goes r1 is1) .0)) $ first ! $ branches ! (load ! (from ! (stop !)) (look ! 4 refl))
+      let y1 : step-knownᶜ 𝓤 H A mem run .Ghost = ((tt, tt, tt, (tip, (b, (r0, (last, (good, tt))))), ((Blockᴰ .val tip) ∷ [], ((Blockᴰ .val b) ∷ [], ((Foundᴰ .val r0) ∷ [], ((Blockᴰ .val last) ∷ [], ((flag .val good) ∷ [], tt)))))), tt) in asks ! step-known.ended (step-known.clauses 𝓤 H A mem run) y1 0 (of W Blockᴰ tip tip-is (of W Blockᴰ b b-is (of W Foundᴰ r0 is0 (of W Blockᴰ last last-is (of W flag good good-is end))))) refl (id⊢ 𝓤 _) $ calls-at ! fm (step-knownᶜ 𝓤 H A mem run) (known .1 .0) y1 (and-then ! (load ! (from ! (stop !)) (look ! 21 refl)) (and-then ! (load ! (from ! (stop !)) (look ! 19 refl)) (and-then ! (load ! (from ! (stop !)) (look ! 11 refl)) (and-then ! (load ! (from ! (stop !)) (look ! 17 refl)) (and-then ! (load ! (from ! (stop !)) (look ! 15 refl)) (no-more !)))))) (λ w1. came ! step-known.ended (step-known.clauses 𝓤 H A mem run) y1 w1 Onwardᴰ 8 refl refl ([]) (λ r ws. r ≡ shortened last good b (onwardOf tip b r0)) (λ r ws. id⊢ 𝓤 _) (λ r1 ws1 is1 e1. assigns ! (of-opd ! (load ! (from ! (fld ! refl (stop !))) (look-in ! 8 (sub ! 0 refl (whole !))))) (from ! (stop !)) (init ! 4 refl (fits W flag (r1 .goes) (Onward-goes r1 is1) .0)) $ first ! $ branches ! (load ! (from ! (stop !)) (look ! 4 refl))
       (λ yes0.
-      let way : r1 ≡ shortened last good (onwardOf tip b (heldOf tip (take count ys) (b .parent))) = e1 ∙ ap (λ (z : Found). shortened last good (onwardOf tip b z)) e0 in assigns ! (of-opd ! (load ! (from ! (fld ! refl (stop !))) (look-in ! 8 (sub ! 2 refl (whole !))))) (from ! (stop !)) (init ! 6 refl (fits W Blockᴰ (r1 .block) (Onward-block r1 is1) .0)) $
+      let way : r1 ≡ shortened last good b (onwardOf tip b (heldOf tip (take count ys) (b .parent))) = e1 ∙ ap (λ (z : Found). shortened last good b (onwardOf tip b z)) e0 in assigns ! (of-opd ! (load ! (from ! (fld ! refl (stop !))) (look-in ! 8 (sub ! 2 refl (whole !))))) (from ! (stop !)) (init ! 6 refl (fits W Blockᴰ (r1 .block) (Onward-block r1 is1) .0)) $
       -- call 2: `blocks::descends`
       move ! (1 ∷ []) $ use1 W (‵ (Shr Blockᴿ κ0 ys-b ys-o ys-γ ys-n ys) ⊛ ‵ (Shr Blockᴿ κ0 ys-b ys-o ys-γ ys-n ys)) (shr-slice-copy 𝓤 H A W (named 0) κ0 Blockᴿ .twice (lying Blockᴿ ys-b ys-o ys-γ ys) (ys-s ∷ [])) $ split ! $
       let y2 : descendsᶜ 𝓤 H A mem run .Ghost = (((κ0, tt), (q0, tt), tt, (lying Blockᴿ ys-b ys-o ys-γ ys, (count, (tip, ((r1 .block), tt)))), (ys-s ∷ [], ((word .val count) ∷ [], ((Blockᴰ .val tip) ∷ [], ((Blockᴰ .val (r1 .block)) ∷ [], tt))))), tt) in move ! (2 ∷ 0 ∷ []) $ asks ! descends.ended (descends.clauses 𝓤 H A mem run) y2 2 (held (of W word count count-is (of W Blockᴰ tip tip-is (of W Blockᴰ (r1 .block) (Onward-block r1 is1) end)))) refl (id⊢ 𝓤 _) $ calls-at-last ! fm (descendsᶜ 𝓤 H A mem run) (known .1 .1) y2 (and-then ! (load ! (from ! (stop !)) (look ! 24 refl)) (and-then ! (load ! (from ! (stop !)) (look ! 22 refl)) (and-then ! (load ! (from ! (stop !)) (look ! 20 refl)) (and-then ! (load ! (from ! (stop !)) (look ! 6 refl)) (no-more !))))) (λ w2. came-last ! descends.ended (descends.clauses 𝓤 H A mem run) y2 w2 flag 1 refl refl ([]) (λ r ws. r ≡ descendsOf tip (take count ys) (r1 .block)) (λ r ws. id⊢ 𝓤 _) (λ r2 ws2 is2 e2. exec ! C Λ (En l₀ l₁ l₂ l₃ l₄ l₅ l₆ l₇ l₈ l₉ l₁₀ l₁₁ l₁₂) after-5 (atRet (En l₀ l₁ l₂ l₃ l₄ l₅ l₆ l₇ l₈ l₉ l₁₀ l₁₁ l₁₂) Post) $ assigns ! (of-opd ! (load ! (from ! (stop !)) (look ! 2 refl))) (from ! (stop !)) (init ! 26 refl (fits W flag r2 is2 .0)) $
       -- the exit
       returns ! (look ! 26 refl) $ leave ! 2 (full _ ∷ full _ ∷ full _ ∷ full _ ∷ full _ ∷ full _ ∷ full _ ∷ full _ ∷ full _ ∷ full _ ∷ full _ ∷ full _ ∷ full _ ∷ []) refl $ keep ! (0 ∷ []) $ ends W f.ended stayed (f.clauses 𝓤 H A mem run) y (flag .val r2) r2 (tt, (tt, (tt, (tt, (tt, (tt, tt)))))) (tt, (tt, (tt, (tt, (tt, (tt, tt)))))) (flag .makes 𝓤 H A W r2 _ is2) (so 𝓤 (e2 ∙ judged-on tip (take count ys) b last good asked r1 way (is-true (r1 .goes) yes0))) (made (id⊢ 𝓤 _) (made (id⊢ 𝓤 _) (made (id⊢ 𝓤 _) (made (id⊢ 𝓤 _) (made (id⊢ 𝓤 _) (made (id⊢ 𝓤 _) end)))))))))
       (λ no0.
-      let way : r1 ≡ shortened last good (onwardOf tip b (heldOf tip (take count ys) (b .parent))) = e1 ∙ ap (λ (z : Found). shortened last good (onwardOf tip b z)) e0 in assigns-last ! (of-opd ! (load ! (from ! (fld ! refl (stop !))) (look-in ! 8 (sub ! 1 refl (whole !))))) (from ! (stop !)) (init ! 2 refl (fits W flag (r1 .ends) (Onward-ends r1 is1) .0)) $ exec ! C Λ (En l₀ l₁ l₂ l₃ l₄ l₅ l₆ l₇ l₈ l₉ l₁₀ l₁₁ l₁₂) after-5 (atRet (En l₀ l₁ l₂ l₃ l₄ l₅ l₆ l₇ l₈ l₉ l₁₀ l₁₁ l₁₂) Post) $ assigns ! (of-opd ! (load ! (from ! (stop !)) (look ! 2 refl))) (from ! (stop !)) (init ! 26 refl (fits W flag (r1 .ends) (Onward-ends r1 is1) .0)) $
+      let way : r1 ≡ shortened last good b (onwardOf tip b (heldOf tip (take count ys) (b .parent))) = e1 ∙ ap (λ (z : Found). shortened last good b (onwardOf tip b z)) e0 in assigns-last ! (of-opd ! (load ! (from ! (fld ! refl (stop !))) (look-in ! 8 (sub ! 1 refl (whole !))))) (from ! (stop !)) (init ! 2 refl (fits W flag (r1 .ends) (Onward-ends r1 is1) .0)) $ exec ! C Λ (En l₀ l₁ l₂ l₃ l₄ l₅ l₆ l₇ l₈ l₉ l₁₀ l₁₁ l₁₂) after-5 (atRet (En l₀ l₁ l₂ l₃ l₄ l₅ l₆ l₇ l₈ l₉ l₁₀ l₁₁ l₁₂) Post) $ assigns ! (of-opd ! (load ! (from ! (stop !)) (look ! 2 refl))) (from ! (stop !)) (init ! 26 refl (fits W flag (r1 .ends) (Onward-ends r1 is1) .0)) $
       -- the exit
       returns ! (look ! 26 refl) $ leave ! 2 (full _ ∷ full _ ∷ full _ ∷ full _ ∷ full _ ∷ full _ ∷ full _ ∷ full _ ∷ full _ ∷ full _ ∷ empty ∷ full _ ∷ full _ ∷ []) refl $ keep ! (0 ∷ []) $ ends W f.ended stayed (f.clauses 𝓤 H A mem run) y (flag .val (r1 .ends)) (r1 .ends) (tt, (tt, (tt, (tt, (tt, (tt, tt)))))) (tt, (tt, (tt, (tt, (tt, (tt, tt)))))) (flag .makes 𝓤 H A W (r1 .ends) _ (Onward-ends r1 is1)) (so 𝓤 (judged-off tip (take count ys) b last good asked r1 way (is-false (r1 .goes) no0))) (made (id⊢ 𝓤 _) (made (id⊢ 𝓤 _) (made (id⊢ 𝓤 _) (made (id⊢ 𝓤 _) (made (id⊢ 𝓤 _) (made (id⊢ 𝓤 _) end))))))))))))))))))))))))
 
