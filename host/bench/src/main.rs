@@ -1,44 +1,105 @@
-//! Time of a call, the proved library beside the oracle, on the same streams in one run: `bench [CALLS] [ROUNDS]`.
-//!
-//! Clusters of 6, 13 and 32. Streams are made before the clock starts; each side keeps its state and one output buffer
-//! that it writes every call's output to. Each round plays all streams on one side, then on the other; the first round
-//! warms up and isn't counted. What is printed is the mean over the calls of each call's median over the rounds.
+//! Measures sections, prints their tables, writes them as CSV, draws two of them. `USAGE` has all options.
 
-mod measure;
-mod release;
-mod sides;
+use std::process::ExitCode;
+use std::{fs, io, path::Path};
 
-use measure::{Prepared, Table};
-use streams::{play, Coverage, Opening};
+use bench::table::Table;
+use bench::{held, kinds, plot, releases, size, timeouts};
 
-/// Streams of 1,500 calls, so that little of the time is spent in the last views.
-const STREAM: usize = 1500;
+const USAGE: &str = "\
+usage: bench [--calls N] [--rounds N] [--section NAME].. [--csv FOLDER] [--svg OUT]
+  --calls N       calls of the random streams for each cluster, 60,000 if not given
+  --rounds N      how often each call is timed, 21 if not given
+  --section NAME  only this one; may be given several times
+  --csv FOLDER    writes each section's table to FOLDER/NAME.csv
+  --svg OUT       draws the sections size and held
+sections:
+  kinds     every kind of call, accepted and refused, on random streams; n 6, 13, 32
+  held      accepted calls while 0 to 120 blocks are held above the tip; n 6
+  timeouts  one view change by timeouts; n 6, 13, 32
+  size      accepted calls of a cluster at work; n 6 to 32
+  releases  chains of 1 to 128 blocks released at once, and the longest calls known";
 
-fn main() {
-    let mut numbers = std::env::args().skip(1).map(|text| text.parse::<usize>().expect("a number"));
-    let calls = numbers.next().unwrap_or(60_000);
-    let rounds = numbers.next().unwrap_or(7).max(1);
-    for (f, c, k) in [(1, 1, 0), (2, 2, 2), (7, 5, 0)] {
-        let n = 3 * f + 2 * c + k + 1;
-        let mut coverage = Coverage::default();
-        let prepared = prepare(f, c, k, calls.div_ceil(STREAM) as u64, &mut coverage);
-        println!("n {n}: {} calls, {} % accepted, {rounds} rounds", coverage.calls(), coverage.accepted_percent());
-        println!("{}", Table::measure(&prepared, rounds));
+const SECTIONS: [&str; 5] = ["kinds", "held", "timeouts", "size", "releases"];
+
+struct Options {
+    calls: usize,
+    rounds: usize,
+    sections: Vec<String>,
+    csv: Option<String>,
+    svg: Option<String>,
+}
+
+impl Options {
+    /// None where they can't be read.
+    fn read(mut arguments: impl Iterator<Item = String>) -> Option<Options> {
+        let mut options = Options { calls: 60_000, rounds: 21, sections: Vec::new(), csv: None, svg: None };
+        while let Some(option) = arguments.next() {
+            let value = arguments.next()?;
+            match option.as_str() {
+                "--calls" => options.calls = value.parse().ok().filter(|calls| *calls > 0)?,
+                "--rounds" => options.rounds = value.parse().ok().filter(|rounds| *rounds > 0)?,
+                "--section" if SECTIONS.contains(&&*value) => options.sections.push(value),
+                "--csv" => options.csv = Some(value),
+                "--svg" => options.svg = Some(value),
+                _ => return None,
+            }
+        }
+        Some(options)
     }
-    for height in [1, 64, 128] {
-        let [library, oracle] = release::measure(height);
-        println!(
-            "n 32, full store, block {height} released: library {library:.1} µs, oracle {oracle:.1} µs, ratio {:.2}",
-            library / oracle
-        );
+
+    fn asks_for(&self, section: &str) -> bool {
+        let drawn = self.svg.is_some() && plot::DRAWN.contains(&section);
+        drawn || self.sections.is_empty() || self.sections.iter().any(|asked| asked == section)
     }
 }
 
-fn prepare(f: u64, c: u64, k: u64, streams: u64, coverage: &mut Coverage) -> Prepared {
-    let n = 3 * f + 2 * c + k + 1;
-    let stream = |seed| {
-        let opening = Opening::new(f, c, k, seed % n).expect("good settings");
-        (opening, play(opening, seed, STREAM, coverage).calls)
+fn main() -> ExitCode {
+    let Some(options) = Options::read(std::env::args().skip(1)) else {
+        eprintln!("{USAGE}");
+        return ExitCode::FAILURE;
     };
-    (0..streams).map(stream).collect()
+    match run(&options) {
+        Ok(()) => ExitCode::SUCCESS,
+        Err(error) => {
+            eprintln!("bench: {error}");
+            ExitCode::FAILURE
+        }
+    }
+}
+
+fn run(options: &Options) -> io::Result<()> {
+    let mut tables = Vec::new();
+    for section in SECTIONS.into_iter().filter(|section| options.asks_for(section)) {
+        let table = measure(section, options);
+        if let Some(folder) = &options.csv {
+            fs::create_dir_all(folder)?;
+            fs::write(Path::new(folder).join(format!("{section}.csv")), table.csv())?;
+        }
+        tables.push(table);
+    }
+    let named = |name: &str| tables.iter().find(|table| table.name == name);
+    if let (Some(file), Some(size), Some(held)) = (&options.svg, named("size"), named("held")) {
+        fs::write(file, plot::draw(size, held))?;
+    }
+    Ok(())
+}
+
+/// Measures a section and prints its table.
+fn measure(section: &str, options: &Options) -> Table {
+    let table = match section {
+        "kinds" => return measure_kinds(options),
+        "held" => held::measure(options.rounds),
+        "timeouts" => timeouts::measure(options.rounds),
+        "size" => size::measure(options.rounds),
+        _ => releases::measure(options.rounds),
+    };
+    println!("{table}");
+    table
+}
+
+fn measure_kinds(options: &Options) -> Table {
+    let measured = kinds::measure(options.calls, options.rounds);
+    measured.iter().for_each(|kinds| println!("{kinds}"));
+    kinds::table(&measured)
 }

@@ -1,6 +1,5 @@
-//! Rounds, medians and means.
+//! Calls played on both sides: rounds, medians and means.
 
-use std::fmt;
 use std::hint::black_box;
 use std::time::Instant;
 
@@ -8,54 +7,75 @@ use streams::{Call, Kind, Opening};
 
 use crate::sides::{Library, Oracle, Side};
 
-/// The calls that each opened replica gets.
-pub type Prepared = Vec<(Opening, Vec<Call>)>;
-
-/// Mean nanoseconds of accepted and of refused calls; none where there is no such call.
-type Means = [Option<f64>; 2];
-
-/// What one side took.
-struct Figures {
-    kinds: [Means; Kind::ALL.len()],
-    all: Means,
+/// What is counted of a call.
+#[derive(Clone, Copy, Debug, PartialEq, Eq)]
+pub enum Mark {
+    /// Made, but not timed.
+    Untimed,
+    Accepted(Kind),
+    Refused(Kind),
 }
 
-/// The library's figures, then the oracle's.
-pub struct Table([Figures; 2]);
-
-impl Table {
-    /// The first round warms up and isn't counted.
-    pub fn measure(prepared: &Prepared, rounds: usize) -> Table {
-        let opening = prepared[0].0;
-        let mut sides: [Box<dyn Side>; 2] = [Box::new(Library::new(opening)), Box::new(Oracle::new(opening))];
-        let mut times: [Vec<Vec<u32>>; 2] = Default::default();
-        for round in 0..=rounds {
-            for (side, times) in sides.iter_mut().zip(&mut times) {
-                let calls = time_calls(&mut **side, prepared);
-                if round > 0 {
-                    times.push(calls);
-                }
-            }
+impl Mark {
+    pub fn of(call: &Call, accepted: bool) -> Mark {
+        match accepted {
+            true => Mark::Accepted(Kind::of(call)),
+            false => Mark::Refused(Kind::of(call)),
         }
-        let kinds = kinds_of(prepared);
-        let clock = clock_time();
-        Table(times.map(|rounds| Figures::of(&rounds, &kinds, clock)))
     }
 }
 
-impl Figures {
-    fn of(rounds: &[Vec<u32>], kinds: &[(Kind, bool)], clock: f64) -> Figures {
-        let mut sums = [[(0.0, 0u32); 2]; Kind::ALL.len()];
-        let mut all = [(0.0, 0u32); 2];
-        for ((kind, accepted), time) in kinds.iter().zip(medians(rounds)) {
-            let answer = usize::from(!accepted);
-            for (sum, count) in [&mut sums[*kind as usize][answer], &mut all[answer]] {
-                *sum += (time - clock).max(0.0);
-                *count += 1;
+/// An opened replica and the calls that it gets.
+pub struct Script {
+    pub opening: Opening,
+    pub calls: Vec<(Call, Mark)>,
+}
+
+/// Of the timed calls each one's nanoseconds, library then oracle: the median over the rounds.
+pub struct Times {
+    marks: Vec<Mark>,
+    sides: [Vec<f64>; 2],
+}
+
+impl Times {
+    /// The times of each case. A round plays all cases, each script on one side and at once on the other, so that a slow
+    /// while of the machine slows both; the first round warms up and isn't counted.
+    pub fn measure(cases: &[Vec<Script>], rounds: usize) -> Vec<Times> {
+        let opening = cases[0][0].opening;
+        let mut sides: [Box<dyn Side>; 2] = [Box::new(Library::new(opening)), Box::new(Oracle::new(opening))];
+        let mut times: Vec<[Vec<Vec<u32>>; 2]> = cases.iter().map(|_| Default::default()).collect();
+        let mut nothing = Vec::new();
+        for round in 0..=rounds {
+            nothing.push(time_nothing());
+            for (case, times) in cases.iter().zip(&mut times) {
+                let [library, oracle] = time_case(&mut sides, case);
+                if round > 0 {
+                    times[0].push(library);
+                    times[1].push(oracle);
+                }
             }
         }
-        let mean = |(sum, count): (f64, u32)| (count > 0).then(|| sum / f64::from(count));
-        Figures { kinds: sums.map(|row| row.map(mean)), all: all.map(mean) }
+        let clock = medians(&nothing).sum::<f64>() / nothing[0].len() as f64;
+        cases.iter().zip(times).map(|(case, times)| Times::of(case, times, clock)).collect()
+    }
+
+    fn of(case: &[Script], times: [Vec<Vec<u32>>; 2], clock: f64) -> Times {
+        let marks = case.iter().flat_map(|script| &script.calls).map(|(_, mark)| *mark);
+        let sides = times.map(|rounds| medians(&rounds).map(|time| (time - clock).max(0.0)).collect());
+        Times { marks: marks.filter(|mark| *mark != Mark::Untimed).collect(), sides }
+    }
+
+    /// The mean over the calls that are asked for; none where there are none.
+    pub fn mean(&self, asked: impl Fn(Mark) -> bool) -> Option<[f64; 2]> {
+        let count = self.marks.iter().filter(|mark| asked(**mark)).count();
+        let sum = |times: &Vec<f64>| -> f64 {
+            times.iter().zip(&self.marks).filter(|(_, mark)| asked(**mark)).map(|(time, _)| time).sum()
+        };
+        (count > 0).then(|| self.sides.each_ref().map(|times| sum(times) / count as f64))
+    }
+
+    pub fn count(&self, asked: impl Fn(Mark) -> bool) -> usize {
+        self.marks.iter().filter(|mark| asked(**mark)).count()
     }
 }
 
@@ -68,58 +88,30 @@ fn medians(rounds: &[Vec<u32>]) -> impl Iterator<Item = f64> + '_ {
     })
 }
 
-/// Each call timed by itself.
-fn time_calls(side: &mut dyn Side, prepared: &Prepared) -> Vec<u32> {
-    let mut times = Vec::new();
-    for (opening, calls) in prepared {
-        side.open(*opening);
-        for call in calls {
-            let start = Instant::now();
-            black_box(side.make(call));
-            times.push(start.elapsed().as_nanos() as u32);
+fn time_case(sides: &mut [Box<dyn Side>; 2], scripts: &[Script]) -> [Vec<u32>; 2] {
+    let mut times: [Vec<u32>; 2] = Default::default();
+    for script in scripts {
+        for (side, times) in sides.iter_mut().zip(&mut times) {
+            time_calls(&mut **side, script, times);
         }
     }
     times
 }
 
-/// Each call's kind, and whether it is accepted.
-fn kinds_of(prepared: &Prepared) -> Vec<(Kind, bool)> {
-    let mut oracle = Oracle::new(prepared[0].0);
-    let mut kinds = Vec::new();
-    for (opening, calls) in prepared {
-        oracle.open(*opening);
-        kinds.extend(calls.iter().map(|call| (Kind::of(call), oracle.make(call))));
-    }
-    kinds
-}
-
-/// What a measurement of nothing takes.
-fn clock_time() -> f64 {
-    let nothing: Vec<Vec<u32>> =
-        (0..9).map(|_| (0..1000).map(|_| black_box(Instant::now()).elapsed().as_nanos() as u32).collect()).collect();
-    medians(&nothing).sum::<f64>() / 1000.0
-}
-
-/// A line a kind: nanoseconds of library and oracle and their ratio, for accepted calls and for refused ones.
-impl fmt::Display for Table {
-    fn fmt(&self, f: &mut fmt::Formatter<'_>) -> fmt::Result {
-        let Table([library, oracle]) = self;
-        writeln!(f, "{:<20}{:^26}{:^26}", "ns a call", "accepted", "refused")?;
-        writeln!(f, "{:<20}{1:>9}{2:>9}{3:>8}{1:>9}{2:>9}{3:>8}", "", "library", "oracle", "ratio")?;
-        let rows =
-            Kind::ALL.map(|kind| (format!("{kind:?}"), library.kinds[kind as usize], oracle.kinds[kind as usize]));
-        for (title, library, oracle) in rows.into_iter().chain([("all".to_string(), library.all, oracle.all)]) {
-            write!(f, "{title:<20}")?;
-            (0..2).try_for_each(|answer| write_ratio(f, library[answer], oracle[answer]))?;
-            writeln!(f)?;
+/// Each call timed by itself.
+fn time_calls(side: &mut dyn Side, script: &Script, times: &mut Vec<u32>) {
+    side.open(script.opening);
+    for (call, mark) in &script.calls {
+        let start = Instant::now();
+        black_box(side.make(call));
+        let time = start.elapsed().as_nanos() as u32;
+        if *mark != Mark::Untimed {
+            times.push(time);
         }
-        Ok(())
     }
 }
 
-fn write_ratio(f: &mut fmt::Formatter<'_>, library: Option<f64>, oracle: Option<f64>) -> fmt::Result {
-    match (library, oracle) {
-        (Some(library), Some(oracle)) => write!(f, "{library:>9.0}{oracle:>9.0}{:>8.2}", library / oracle),
-        _ => write!(f, "{:>9}{:>9}{:>8}", "-", "-", "-"),
-    }
+/// What measuring takes by itself: it is timed in every round, like the calls.
+fn time_nothing() -> Vec<u32> {
+    (0..1000).map(|_| black_box(Instant::now()).elapsed().as_nanos() as u32).collect()
 }

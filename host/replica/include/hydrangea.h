@@ -20,7 +20,7 @@
  * - of the output, kind 6 goes to the leader of the next view, kind 9 (a release) to the host itself, all else to
  *   every other replica.
  *
- * On the deepest inputs known a call takes under 160 KiB of stack.
+ * On the deepest inputs known a call takes under 240 KiB of stack.
  */
 #ifndef HYDRANGEA_H
 #define HYDRANGEA_H

@@ -57,6 +57,12 @@ impl Core for oracle::Replica {
 /// The proved library. Its replica isn't to be cloned by a host that runs it; here a clone is a save that is restored.
 pub struct Proved(replica::Replica);
 
+impl Proved {
+    pub fn replica(&self) -> &replica::Replica {
+        &self.0
+    }
+}
+
 impl Clone for Proved {
     fn clone(&self) -> Proved {
         Proved(replica::Replica::restore(&self.0.save()).expect("what a call left"))

@@ -1,5 +1,5 @@
 //! A recorded run as a timeline that people can read: as text, as a picture in SVG, as a page. The replicas under it
-//! are anything that is a `Shown`; the oracle is one.
+//! are anything that is a `Shown`: the proved library and the oracle are.
 
 mod captions;
 mod lanes;

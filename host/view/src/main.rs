@@ -4,28 +4,29 @@ use std::fs;
 use std::io::{self, BufWriter, IsTerminal, Write};
 use std::process::ExitCode;
 
-use oracle::{Faults, Protocol};
+use oracle::{Faults, Protocol, Replica};
+use sim::Proved;
 use view::{join, page, picture, play, Error, Event, Opened, Panel, Played, Recording, Summary, Timeline};
 
 const USAGE: &str = "\
-usage: view [--summary] [--progress] [--beside FILE] [--fault NAME].. FILE..
-       view [--html OUT] [--svg OUT] [--title TEXT] [--progress] [--beside FILE] [--fault NAME].. FILE..
+usage: view [--summary] [--progress] [--core CORE] [--beside FILE] [--fault NAME].. FILE..
+       view [--html OUT] [--svg OUT] [--title TEXT] [--progress] [--core CORE] [--beside FILE] [--fault NAME].. FILE..
 FILE is an input of the run program (one replica each; several may be given) or a run of a whole cluster.
   --html OUT     a page with the picture and every call in words
   --svg OUT      the picture alone
   --beside FILE  a second run, shown below the first
+  --core CORE    library (the proved one, as a rule) or oracle; a run with an error built in is played on the oracle
   --fault NAME   an error built into the replicas of the second run, or of the first if there is no second
   --summary      only counts, releases and last states
   --progress     tells on standard error how far it is; as a rule only a terminal is told";
-
-/// The replicas that runs are played on.
-type Shown = oracle::Replica;
 
 #[derive(Default)]
 struct Options {
     files: Vec<String>,
     beside: Option<String>,
     faults: Faults,
+    /// Whether the oracle plays runs without faults too.
+    oracle: bool,
     html: Option<String>,
     svg: Option<String>,
     title: Option<String>,
@@ -45,6 +46,7 @@ impl Options {
                 "--html" => options.html = Some(value()?),
                 "--svg" => options.svg = Some(value()?),
                 "--title" => options.title = Some(value()?),
+                "--core" => options.set_core(&value()?)?,
                 "--fault" => options.set_fault(&value()?)?,
                 _ if argument.starts_with("--") => return Err(Error(format!("{argument}: no such option"))),
                 _ => options.files.push(argument),
@@ -63,8 +65,31 @@ impl Options {
         }
     }
 
+    fn set_core(&mut self, name: &str) -> Result<(), Error> {
+        self.oracle = match name {
+            "library" => false,
+            "oracle" => true,
+            _ => return Err(Error(format!("{name}: no such core; there are library oracle"))),
+        };
+        Ok(())
+    }
+
     fn draws(&self) -> bool {
         self.html.is_some() || self.svg.is_some()
+    }
+
+    /// Plays a run on the library, or on the oracle where that is asked for or needed.
+    fn play<E>(
+        &self,
+        recording: &Recording,
+        faults: Faults,
+        each: impl FnMut(Event) -> Result<(), E>,
+    ) -> Result<(), E> {
+        if self.oracle || faults != Faults::NONE {
+            play::<Replica, E>(recording, faults, each)
+        } else {
+            play::<Proved, E>(recording, (), each)
+        }
     }
 
     /// The errors of the run itself.
@@ -158,7 +183,7 @@ fn tell_file(options: &Options, file: &str, faults: Faults, out: &mut impl Write
         true => None,
         false => Some(written(Timeline::begin(&opened, file, &mut *out))?),
     };
-    play::<Shown, Error>(&recording, faults, |event: Event| {
+    options.play(&recording, faults, |event: Event| {
         progress.call();
         summary.event(&event);
         timeline.as_mut().map_or(Ok(()), |timeline| written(timeline.event(&event)))
@@ -193,7 +218,7 @@ fn play_file(options: &Options, file: &str, faults: Faults) -> Result<Played, Er
     let opened = Opened::new(&recording, Protocol::new(recording.settings, faults));
     let mut progress = Progress::new(options, recording.entries.len());
     let mut events = Vec::new();
-    play::<Shown, Error>(&recording, faults, |event| {
+    options.play::<Error>(&recording, faults, |event| {
         progress.call();
         events.push(event);
         Ok(())

@@ -1,11 +1,11 @@
 //! What the timeline asks of a replica.
 
 use oracle::{Name, Refusal};
-use sim::Core;
+use sim::{Core, Proved};
 
 use crate::recording::Call;
 
-/// A replica whose calls can be shown. Another implementation is plugged in with this and `sim::Core`.
+/// A replica whose calls can be shown.
 pub trait Shown: Core {
     /// The lock's view and name; view 0 is the genesis certificate.
     fn lock(&self) -> (u64, Name);
@@ -14,6 +14,13 @@ pub trait Shown: Core {
 impl Shown for oracle::Replica {
     fn lock(&self) -> (u64, Name) {
         (self.counters.lock.view.0, self.counters.lock.name)
+    }
+}
+
+impl Shown for Proved {
+    fn lock(&self) -> (u64, Name) {
+        let lock = self.replica().lock();
+        (lock.view.0, lock.name.bytes)
     }
 }
 

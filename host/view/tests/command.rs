@@ -33,6 +33,20 @@ fn the_story_in_words() {
     }
 }
 
+/// Over the library, which is the rule, and over the oracle.
+#[test]
+fn both_cores_tell_the_same() {
+    let inputs = names().into_iter().map(|name| format!("{name}.bin"));
+    for file in inputs.chain(["story.run".to_string(), "story-wrong.run".to_string()]) {
+        let file = format!("runs/{file}");
+        let library = shown(&[&file]);
+        assert!(library.contains("calls accepted"), "{library}");
+        for core in ["library", "oracle"] {
+            assert_eq!(shown(&["--core", core, &file]), library, "{core}: {file}");
+        }
+    }
+}
+
 #[test]
 fn a_fault_is_of_the_run_beside_or_of_the_run_itself() {
     let wrong = shown(&["--summary", "--fault", "weak-over-block", "runs/story-wrong.run"]);
@@ -131,7 +145,10 @@ fn malformed_cluster_runs() {
 
 #[test]
 fn wrong_arguments() {
-    for arguments in [&[][..], &["--html"], &["--nothing", "runs/story.run"], &["--fault", "none", "runs/story.run"]] {
+    let file = "runs/story.run";
+    for arguments in
+        [&[][..], &["--html"], &["--nothing", file], &["--fault", "none", file], &["--core", "neither", file]]
+    {
         let output = view(arguments);
         assert_eq!(output.code, Some(2), "{arguments:?}");
         assert!(output.err.contains("usage: view"), "{}", output.err);

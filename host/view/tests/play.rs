@@ -4,10 +4,16 @@ mod common;
 
 use common::{names, stored};
 use oracle::{Faults, Protocol, Replica};
+use sim::Proved;
 use view::{page, Panel, Played, Recording};
 
+/// On the library; the oracle's run is the same.
 fn played(recording: &Recording) -> Played {
-    Played::new::<Replica>(recording, Faults::NONE, Protocol::new(recording.settings, Faults::NONE))
+    let protocol = Protocol::new(recording.settings, Faults::NONE);
+    let library = Played::new::<Proved>(recording, (), protocol);
+    let other = Played::new::<Replica>(recording, Faults::NONE, protocol);
+    assert_eq!(library.events, other.events);
+    library
 }
 
 /// The lines of the run program for these events.

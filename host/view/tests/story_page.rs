@@ -11,9 +11,9 @@ fn docs(name: &str) -> PathBuf {
 }
 
 /// As in `host/README.md`, with other places to write to.
-fn write_story(html: &Path, svg: &Path) {
+fn write_story(core: &[&str], html: &Path, svg: &Path) {
     let [html, svg] = [html, svg].map(|path| path.to_str().expect("a path that is text"));
-    shown(&[
+    let arguments = [
         "--html",
         html,
         "--svg",
@@ -25,7 +25,8 @@ fn write_story(html: &Path, svg: &Path) {
         "--fault",
         "weak-over-block",
         "runs/story.run",
-    ]);
+    ];
+    shown(&[core, &arguments].concat());
 }
 
 fn read(path: &Path) -> String {
@@ -34,8 +35,18 @@ fn read(path: &Path) -> String {
 
 #[test]
 fn page_and_picture_are_up_to_date() {
-    let [html, svg] = ["story.html", "story.svg"].map(scratch);
-    write_story(&html, &svg);
+    assert_up_to_date(&[]);
+}
+
+/// The oracle draws the same as the library.
+#[test]
+fn page_and_picture_are_those_of_the_oracle() {
+    assert_up_to_date(&["--core", "oracle"]);
+}
+
+fn assert_up_to_date(core: &[&str]) {
+    let [html, svg] = ["story.html", "story.svg"].map(|name| scratch(&format!("{}{name}", core.concat())));
+    write_story(core, &html, &svg);
     for (name, path) in [("story.html", html), ("story.svg", svg)] {
         let written = read(&path);
         std::fs::remove_file(&path).unwrap();

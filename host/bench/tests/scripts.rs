@@ -1,0 +1,61 @@
+//! What is timed is what it seems: both sides answer every scripted call alike, and pictures and tables are whole.
+
+use bench::measure::{Mark, Script, Times};
+use bench::sides::{Library, Oracle, Side};
+use bench::table::{Row, Table};
+use bench::{held, plot, releases, size, timeouts};
+use streams::Kind;
+
+fn assert_alike(script: &Script) {
+    let mut library = Library::new(script.opening);
+    let mut oracle = Oracle::new(script.opening);
+    for (call, mark) in &script.calls {
+        let accepted = oracle.make(call);
+        assert_eq!(library.make(call), accepted, "{call:?}");
+        assert!(*mark == Mark::Untimed || *mark == Mark::of(call, accepted), "{mark:?}");
+    }
+}
+
+#[test]
+fn both_sides_answer_a_cluster_at_work_alike() {
+    for settings in size::SETTINGS {
+        let script = size::script(settings, 1);
+        assert_alike(&script);
+        let is_refused = |(_, mark): &(_, Mark)| matches!(mark, Mark::Refused(kind) if *kind != Kind::Timeout);
+        assert!(!script.calls.iter().any(is_refused), "only late timeouts are refused");
+    }
+}
+
+/// One round of each section: the calls fit their states, or it would panic.
+#[test]
+fn sections_are_whole() {
+    let tables = [held::measure(1), timeouts::measure(1), size::measure(1), releases::measure(1)];
+    for (table, rows) in tables.iter().zip([32, 3, 24, 13]) {
+        assert_eq!(table.rows.len(), rows, "{}", table.name);
+        assert!(table.rows.iter().all(|row| row.times.iter().all(|time| *time > 0.0)), "{table}");
+        assert_eq!(table.csv().lines().count(), rows + 1);
+    }
+    let picture = plot::draw(&tables[2], &tables[0]);
+    assert!(picture.starts_with("<svg") && picture.ends_with("</svg>\n"));
+    assert_eq!(picture.matches("<polyline").count(), 16);
+    assert_eq!(picture.matches("<text").count(), picture.matches("</text>").count());
+}
+
+#[test]
+fn means_are_of_the_calls_asked_for() {
+    let script = size::script(size::SETTINGS[0], 1);
+    let proposals = script.calls.iter().filter(|(_, mark)| *mark == Mark::Accepted(Kind::Proposal)).count();
+    let times = &Times::measure(&[vec![script]], 1)[0];
+    assert_eq!(times.count(|mark| mark == Mark::Accepted(Kind::Proposal)), proposals);
+    assert!(times.mean(|mark| mark == Mark::Accepted(Kind::Proposal)).is_some());
+    assert!(times.mean(|mark| mark == Mark::Accepted(Kind::Foreign)).is_none());
+}
+
+#[test]
+fn a_table_as_csv() {
+    let row = |label: &str| Row { labels: vec!["6".to_string(), label.to_string()], times: [1500.4, 500.0] };
+    let rows = vec![row("Vote"), row("one, two")];
+    let table = Table { name: "size", title: String::new(), columns: &["n", "call"], rows };
+    assert_eq!(table.csv(), "n,call,library ns,oracle ns,ratio\n6,Vote,1500,500,3.00\n6,\"one, two\",1500,500,3.00\n");
+    assert_eq!(table.series(&["Vote"]), [(6.0, [1500.4, 500.0])]);
+}
