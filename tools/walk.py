@@ -18,6 +18,7 @@
     falls    [proof ..]   of each call of itself
     types     {crate: the crate whose Types.antt has its structs}, where that is another
     local     the module with the steps that lend a local and a `&mut S` again, and with `forks` (crates/run/proofs/Local.antt); then a branch goes by `forks`, which is cheaper to check
+    like      the name of a description without fn, for what several share: its keys, callees and imports are added
     spec      {module: [names]} to import: definitions and lemmas.          lemmas   text put in front          about   a sentence for the head of the file
 The proofs may name: the parameters; P-is (that the plain parameter P is of its type: `.1` of a number's is its bound); P-room (of a slice); `asked` (the requires);
 of call N, from 0: rN (the result), wsN (the last values), isN, eN (its `ensures`), lN-k (the length of the k-th slice that it was lent); yesN, noN (of branch N).
@@ -25,7 +26,15 @@ Done: slices lent again as & and as &mut, `&[S]` passed on, `*c` copied out and 
 with `local` also: a `&mut S` lent again (by a function that does not look behind it), `&mut x` of a local that holds a struct, a local `[x; n]` of structs lent whole as a slice (its content is not followed after that), a callee with one `&[T]` that returns a part of it.
 Not done, and said so: loops, `match`, `return` in an arm, an operation other than +, - and <, a field behind a reference, `&S`.
 """
-import argparse, ast, re, sys
+import argparse, ast, os, re, sys
+
+def described(path):
+    """the description in a file, with what it shares with others: its own callees come first, and the imports of both are made"""
+    d = ast.literal_eval(open(path, encoding='utf-8').read())
+    if 'like' not in d: return d
+    shared = described(os.path.join(os.path.dirname(path), d['like'] + '.py'))
+    spec = {m: shared['spec'].get(m, []) + d['spec'].get(m, []) for m in list(shared['spec']) + [m for m in d['spec'] if m not in shared['spec']]}
+    return {**shared, **d, 'callees': {**d['callees'], **shared['callees']}, 'spec': spec}
 
 def parse(text):
     toks = re.findall(r'"[^"]*"|[()]|[^\s()]+', text)
@@ -663,7 +672,7 @@ def main():
     ap.add_argument('--others', nargs='*', default=[], help='with --types: other crates whose structs are to stand there too')
     ap.add_argument('--types', help='CRATE: write its Types.antt, with --kit the name of the crate of the shared modules; --desc is not read')
     a = ap.parse_args()
-    d = a.types or ast.literal_eval(open(a.desc, encoding='utf-8').read())
+    d = a.types or described(a.desc)
     text = open(a.mir, encoding='utf-8').read()
     fns, tys = functions(text), tables(text)
     names = fields_of([(s.split('=')[0], open(s.split('=')[1], encoding='utf-8').read()) for s in a.src], tys)
@@ -847,7 +856,6 @@ unfolding code.{dashed}-routine tablesOf
     kit = f'Rattle.{d["kit"]}.proofs' if d['kit'] != crate else own
     infix = {'_≡_': '≡', '_∷_': '∷', '_⊛_': '⊛', '_$_': '$', '_∵_': '∵', '_∙_': '∙', '_<_': '<', '_≤_': '≤', '_+_': '+', '_-_': '-', '_*_': '*', '_^_': '^', '[]': '[]'}
     taken = set()
-    import os
     for m in d.get('modules', ['Walk', 'Data', 'Calls', 'Lent', 'After']):
         ns = names_of(os.path.join(a.kit, m + '.antt'))
         got = [n for n in ns if (n in words or infix.get(n) in words or any(x.startswith(n + '.') and ns[n] == 'mod' for x in words)) and n not in taken]

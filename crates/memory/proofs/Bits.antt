@@ -42,6 +42,16 @@ counted-le t u (suc n) h = go (t n) refl (u n) refl (counted-le t u n (λ i l. h
     go false e true f g = omega arith
     go false e false f g = g
 
+-- no more pass than there are
+pub counted-most : (t : ℕ → Bool) (n : ℕ) → counted t n ≤ n
+unfolding counted
+counted-most t zero = omega arith
+counted-most t (suc n) = go (t n) (counted-most t n)
+  where
+    go : (b : Bool) → counted t n ≤ n → cond b (suc (counted t n)) (counted t n) ≤ suc n
+    go true h = omega (arith, h)
+    go false h = omega (arith, h)
+
 -- one number more passes
 pub counted-one : (t u : ℕ → Bool) (i n : ℕ) → i < n → t i ≡ false → u i ≡ true → ((j : ℕ) → j < n → (j ≡ i → ⊥) → u j ≡ t j) → counted u n ≡ suc (counted t n)
 unfolding counted

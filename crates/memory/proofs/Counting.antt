@@ -16,7 +16,7 @@ use Rattle.certificate.specs.Safe.{signs}
 use Rattle.memory.specs.Layout.{rowSize}
 use Rattle.memory.specs.Kept.{mask, has, keptCount, kept, keep, cleared, backs, tallied, tally}
 use Rattle.memory.proofs.Rows.{tally-signers}
-use Rattle.memory.proofs.Bits.{counted, counted-le, counted-one, signs-above, signs-joined, signs-other, count-set, count-low}
+use Rattle.memory.proofs.Bits.{counted, counted-le, counted-most, counted-one, signs-above, signs-joined, signs-other, count-set, count-low}
 use Rattle.memory.proofs.Keeping.{has-keep, has-keep-other, kept-keep, kept-keep-other}
 use Rattle.memory.proofs.Clearing.{has-cleared, has-same, kept-same}
 
@@ -24,6 +24,10 @@ use Rattle.memory.proofs.Clearing.{has-cleared, has-same, kept-same}
 pub kept-counted : (m : List ℕ) (row n : ℕ) → n ≤ 64 → keptCount m row n ≡ counted (has m row) n
 unfolding keptCount has
 kept-counted m row n h = count-low (mask m row) n h
+
+-- no more are kept than there are replicas
+pub kept-most : (m : List ℕ) (row n : ℕ) → n ≤ 64 → keptCount m row n ≤ n
+kept-most m row n w = omega (arith, kept-counted m row n w, counted-most (has m row) n)
 
 module _ (m : List ℕ) (row : ℕ) (x : List ℕ) where
   pub tally-counted : (n : ℕ) → tally m row x n .count ≡ counted (backs m row x) n

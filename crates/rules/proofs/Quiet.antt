@@ -11,11 +11,10 @@ use Rattle.settings.specs.declared.Settings.{Settings}
 use Rattle.settings.specs.Quorum.{largest, replicas, blockQuorum, timeoutQuorum}
 use Rattle.blocks.specs.declared.Block.{Block}
 use Rattle.memory.specs.Layout.{voteRow, commitRow, timeoutRow, settingsOf}
-use Rattle.memory.specs.Kept.{has, keptCount}
+use Rattle.memory.specs.Kept.{keptCount}
 use Rattle.memory.specs.Window.{lowest, highest}
 use Rattle.memory.specs.Decided.{noChoice, nextDecided, tooFew}
-use Rattle.memory.proofs.Bits.{counted}
-use Rattle.memory.proofs.Counting.{kept-counted}
+use Rattle.memory.proofs.Counting.{kept-most}
 use Rattle.memory.proofs.Passing.{few-none}
 use Rattle.memory.specs.Formed.{formed}
 use Rattle.protocol.specs.Work.{Work, n, own, viewNow, timed, sendTimeout}
@@ -53,19 +52,6 @@ module _ (test : ℕ → Bool) where
   pub nowhere-end : (last at : ℕ) → last < at → true ≡ nowhere test at (suc last - at)
   unfolding nowhere
   nowhere-end last at h = let f : suc last - at ≡ 0 = omega (arith, h) in rw f refl
-
--- no more are kept than there are replicas
-counted-most : (t : ℕ → Bool) (n : ℕ) → counted t n ≤ n
-unfolding counted
-counted-most t zero = omega arith
-counted-most t (suc n) = go (t n) (counted-most t n)
-  where
-    go : (b : Bool) → counted t n ≤ n → cond b (suc (counted t n)) (counted t n) ≤ suc n
-    go true h = omega (arith, h)
-    go false h = omega (arith, h)
-
-kept-most : (m : List ℕ) (row n : ℕ) → n ≤ 64 → keptCount m row n ≤ n
-kept-most m row n w = omega (arith, kept-counted m row n w, counted-most (has m row) n)
 
 -- a rule that changes nothing at each view
 each-rests : (rule : ℕ → Work → Work) (test : ℕ → Bool) (W : Work) → ((v : ℕ) → test v ≡ false → rule v W ≡ W) → (v k : ℕ) → nowhere test v k ≡ true → each rule v k W ≡ W

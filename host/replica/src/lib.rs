@@ -57,3 +57,8 @@ pub use types::{Block, Certificate, Counters, Height, Name, Settings, View, Vote
 #[cfg(doctest)]
 #[doc = include_str!("../../../docs/INTERFACE.md")]
 struct Interface;
+
+/// And the README's.
+#[cfg(doctest)]
+#[doc = include_str!("../../../README.md")]
+struct Readme;

@@ -82,57 +82,32 @@ pub fn open(counters: &mut Counters, memory: &mut [u8], store: &[Block], setting
     unsafe { hydrangea_open(counters, memory, memory_length, store.as_ptr(), store.len(), f, c, k, n, own) }
 }
 
+/// A call on all that is lent.
+macro_rules! call {
+    ($function:ident, $lent:ident, $($input:expr),+) => {{
+        let Lent { counters, memory, store, output } = $lent;
+        let (memory, memory_length) = (memory.as_mut_ptr(), memory.len());
+        let (store, store_length) = (store.as_mut_ptr(), store.len());
+        let (output, output_length) = (output.as_mut_ptr(), output.len());
+        // SAFETY: as above; the regions are borrowed for the call, so none overlaps another.
+        unsafe { $function(*counters, memory, memory_length, store, store_length, output, output_length, $($input),+) }
+    }};
+}
+
 impl Lent<'_> {
     /// A record of any bytes.
     pub fn record(&mut self, record: &[u8]) -> Reply {
-        // SAFETY: as above; the regions are borrowed for the call, so none overlaps another.
-        unsafe {
-            hydrangea_record(
-                self.counters,
-                self.memory.as_mut_ptr(),
-                self.memory.len(),
-                self.store.as_mut_ptr(),
-                self.store.len(),
-                self.output.as_mut_ptr(),
-                self.output.len(),
-                record.as_ptr(),
-                record.len(),
-            )
-        }
+        call!(hydrangea_record, self, record.as_ptr(), record.len())
     }
 
     /// The timer of a view.
     pub fn timer(&mut self, view: u64) -> Reply {
-        // SAFETY: as for a record.
-        unsafe {
-            hydrangea_timer(
-                self.counters,
-                self.memory.as_mut_ptr(),
-                self.memory.len(),
-                self.store.as_mut_ptr(),
-                self.store.len(),
-                self.output.as_mut_ptr(),
-                self.output.len(),
-                view,
-            )
-        }
+        call!(hydrangea_timer, self, view)
     }
 
     /// A block of this name is proposed.
     pub fn propose(&mut self, name: Name) -> Reply {
-        // SAFETY: as for a record.
-        unsafe {
-            hydrangea_propose(
-                self.counters,
-                self.memory.as_mut_ptr(),
-                self.memory.len(),
-                self.store.as_mut_ptr(),
-                self.store.len(),
-                self.output.as_mut_ptr(),
-                self.output.len(),
-                name,
-            )
-        }
+        call!(hydrangea_propose, self, name)
     }
 }
 

@@ -129,3 +129,11 @@ fn the_documented_program_is_the_example() {
     let example = fs::read_to_string(folder().join("examples/open.c")).expect("the example");
     assert_eq!(printed, example);
 }
+
+/// The README's command for C, run as it is printed there.
+#[test]
+fn the_readme_compiles_the_example() {
+    let readme = fs::read_to_string(root().join("README.md")).expect("README.md");
+    let command = readme.lines().find(|line| line.starts_with("gcc ")).expect("a command for C");
+    assert_eq!(text(Command::new("sh").arg("-c").arg(command).current_dir(root())), OPEN);
+}
