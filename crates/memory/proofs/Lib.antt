@@ -11,4 +11,5 @@ pub mod Entering
 pub mod Counting
 pub mod Choosing
 pub mod Passing
+pub mod Sole
 pub mod Emptying

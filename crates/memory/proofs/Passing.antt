@@ -159,7 +159,7 @@ module _ (m : List ℕ) (q : Quest) (after : Choice) (some-votes : 1 ≤ q .vote
       let e = choose-none m commits (backed m commits (q .n) (q .commits)) after voted (q .n) h in
       e ∙ choose-none m votes (backed m votes (q .n) (q .votes)) after noChoice (q .n) (sym (ap (λ (z : Choice). z .some) e) ∙ h)
 
-  nothing-next : nextDecided m q after .some ≡ false → nextDecided m q after ≡ noChoice
+  pub nothing-next : nextDecided m q after .some ≡ false → nextDecided m q after ≡ noChoice
   unfolding nextDecided
   nothing-next h =
       let e = choose-none m commits (decided m q) after _ (q .n) h in

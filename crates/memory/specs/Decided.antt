@@ -1,11 +1,13 @@
 -- The names of a view that enough votes or commits decide, "lowest view first, then smaller name" (01: The box, rules C and D). Assumes nothing.
-use Prim.Native.Nat.{ℕ, zero, suc}
+use Prim.Native.Nat.{ℕ, zero, suc, _-_}
 use mathlib.Core.Bool.{Bool, true, false, cond, not, _&&_, _||_}
 use mathlib.Core.List.{List}
 use lib.Dec.{leb, ltb}
 use Rattle.codec.specs.Names.{nameLength, zeroName, lessBytes}
 use Rattle.memory.specs.declared.decided.Choice.{Choice}
 use Rattle.memory.specs.declared.decided.Quest.{Quest}
+use Rattle.memory.specs.declared.decided.Standing.{Standing}
+use Rattle.memory.specs.declared.decided.Finding.{Finding}
 use Rattle.memory.specs.Layout.{voteRow, commitRow}
 use Rattle.memory.specs.Kept.{has, kept, keptCount, tally}
 
@@ -23,6 +25,10 @@ above after x = not (after .some) || lessBytes (after .name) x
 unfoldable pub improves : Choice → Choice → List ℕ → Bool
 improves after best x = above after x && (not (best .some) || lessBytes x (best .name))
 
+-- a name, if there is one, and whether no other is decided
+abbrev pub finding : Choice → Bool → Finding
+finding x only = record { some = x .some; name = x .name; only = only }
+
 module _ (m : List ℕ) where
   -- enough of the first n replicas have an entry for x in a row
   abbrev pub backed : ℕ → ℕ → ℕ → List ℕ → Bool
@@ -31,6 +37,17 @@ module _ (m : List ℕ) where
   -- enough kept votes, or enough kept commits
   unfoldable pub decided : Quest → List ℕ → Bool
   decided q x = backed (voteRow (q .view)) (q .n) (q .votes) x || backed (commitRow (q .view)) (q .n) (q .commits) x
+
+  -- fewer than a quorum have an entry for another name than x: no other name is backed in the row
+  abbrev pub aloneIn : ℕ → ℕ → ℕ → List ℕ → Bool
+  aloneIn row n quorum x = ltb (keptCount m row n - tally m row x n .count) quorum
+
+  unfoldable pub standing : ℕ → ℕ → ℕ → List ℕ → Standing
+  standing row n quorum x = record { backed = backed row n quorum x; alone = aloneIn row n quorum x }
+
+  -- neither votes nor commits decide another name than x
+  unfoldable pub alone : Quest → List ℕ → Bool
+  alone q x = aloneIn (voteRow (q .view)) (q .n) (q .votes) x && aloneIn (commitRow (q .view)) (q .n) (q .commits) x
 
   -- too few kept votes for any name, and too few kept commits
   unfoldable pub tooFew : Quest → Bool
@@ -50,3 +67,16 @@ module _ (m : List ℕ) where
   -- the least decided name above a bound, of all that are kept for the view
   unfoldable pub nextDecided : Quest → Choice → Choice
   nextDecided q after = choose (commitRow (q .view)) (decided q) after (choose (voteRow (q .view)) (decided q) after noChoice (q .n)) (q .n)
+
+  -- the first entry of a row, of k replicas from replica i on
+  unfoldable pub firstOf : ℕ → ℕ → ℕ → List ℕ
+  firstOf row i zero = zeroName
+  firstOf row i (suc k) = cond (has m row i) (kept m row nameLength i) (firstOf row (suc i) k)
+
+  -- a name that is decided, if only one can be: the first kept vote, or the first kept commit where the votes are too few
+  unfoldable pub likely : Quest → List ℕ
+  likely q = firstOf (cond (ltb (keptCount m (voteRow (q .view)) (q .n)) (q .votes)) (commitRow (q .view)) (voteRow (q .view))) 0 (q .n)
+
+  -- the least decided name above a bound, and whether it is clear that no other name is decided
+  unfoldable pub survey : Quest → Choice → Finding
+  survey q after = finding (nextDecided q after) (alone q (likely q))

@@ -8,13 +8,14 @@ use crate::kept::vote_row;
 use codec::name::less;
 use codec::name_at;
 ghost use mathlib.Core.Path.{_≡_};
+ghost use mathlib.Core.Bool.{true, cond, _&&_, _||_};
 ghost use Prim.Native.Nat.{_+_, _≤_, _<_};
 ghost use lib.Dec.{leb};
 ghost use lib.ListN.{length};
 ghost use Rattle.settings.specs.Quorum.{largest};
 ghost use Rattle.memory.specs.Layout.{memoryLength, rowSize};
 ghost use Rattle.memory.specs.Kept.{keptCount};
-ghost use Rattle.memory.specs.Decided.{tooFew, above, improves, backed, consider, choose, nextDecided};
+ghost use Rattle.memory.specs.Decided.{noChoice, chosen, tooFew, above, improves, backed, standing, consider, choose, nextDecided, firstOf, likely, finding, survey};
 
 // A name, or none.
 pub struct Choice {
@@ -28,6 +29,19 @@ pub struct Quest {
     pub n: usize,
     pub votes: u64,
     pub commits: u64,
+}
+
+// How a name stands in a row: whether a quorum backs it, and whether too few entries are for other names to make one.
+pub struct Standing {
+    pub backed: bool,
+    pub alone: bool,
+}
+
+// The next decided name, if there is one, and whether it is clear that no other name of the view is decided.
+pub struct Finding {
+    pub some: bool,
+    pub name: [u8; 32],
+    pub only: bool,
 }
 
 // Above the bound, if there is one.
@@ -146,4 +160,96 @@ pub fn next_decided(mem: &[u8], q: Quest, after: Choice) -> Choice
     }
     let voted = choose(mem, vote_row(q.view), q.n, q.votes, after, none);
     choose(mem, commit_row(q.view), q.n, q.commits, after, voted)
+}
+
+pub fn weigh(mem: &[u8], row: usize, n: usize, quorum: u64, name: [u8; 32]) -> Standing
+    requires { ⌜ (memoryLength ≤ length (now mem)) × ((row + rowSize 32 ≤ memoryLength) × (n ≤ largest)) ⌝ }
+    ensures { λ r. ⌜ r ≡ standing (now (mem .entry)) row n quorum name ⌝ }
+{
+    let t = count_backers(mem, row, name, n);
+    let others = kept_count(mem, row, n as u64) - t.count;
+    Standing {
+        backed: quorum <= t.count,
+        alone: others < quorum,
+    }
+}
+
+// The first entry of a row; zero where there is none.
+fn first_name(mem: &[u8], row: usize, n: usize) -> [u8; 32]
+    requires { ⌜ (memoryLength ≤ length (now mem)) × ((row + rowSize 32 ≤ memoryLength) × (n ≤ largest)) ⌝ }
+    ensures { λ r. ⌜ r ≡ firstOf (now (mem .entry)) row 0 n ⌝ }
+{
+    let mut i = 0;
+    while i < n {
+        if has(mem, row, i as u64) {
+            return name_at(mem, entry_at(row, 32, i));
+        }
+        i += 1;
+    }
+    [0u8; 32]
+}
+
+fn likely(mem: &[u8], q: Quest) -> [u8; 32]
+    requires { ⌜ (memoryLength ≤ length (now mem)) × (q .n ≤ largest) ⌝ }
+    ensures { λ r. ⌜ r ≡ likely (now (mem .entry)) q ⌝ }
+{
+    if kept_count(mem, vote_row(q.view), q.n as u64) < q.votes {
+        return first_name(mem, commit_row(q.view), q.n);
+    }
+    first_name(mem, vote_row(q.view), q.n)
+}
+
+// The one name that votes or commits may have decided, if they have and it is above the bound.
+fn lone(voted: bool, committed: bool, after: Choice, name: [u8; 32]) -> Finding
+    ensures { λ r. ⌜ r ≡ finding (cond ((voted || committed) && above after name) (chosen name) noChoice) true ⌝ }
+{
+    let none = Finding {
+        some: false,
+        name: [0u8; 32],
+        only: true,
+    };
+    if !above(after, name) {
+        return none;
+    }
+    let one = Finding {
+        some: true,
+        name,
+        only: true,
+    };
+    if voted {
+        return one;
+    }
+    if committed {
+        return one;
+    }
+    none
+}
+
+fn both(a: bool, b: bool) -> bool
+    ensures { λ r. ⌜ r ≡ (a && b) ⌝ }
+{
+    if a {
+        return b;
+    }
+    false
+}
+
+// As `next_decided`. Mostly a view has entries for one name alone: that is counted once, and nothing else is looked at.
+pub fn survey(mem: &[u8], q: Quest, after: Choice) -> Finding
+    requires { ⌜ (memoryLength ≤ length (now mem)) × ((q .n ≤ largest) × ((1 ≤ q .votes) × (1 ≤ q .commits))) ⌝ }
+    ensures { λ r. ⌜ r ≡ survey (now (mem .entry)) q after ⌝ }
+{
+    let name = likely(mem, q);
+    let v = weigh(mem, vote_row(q.view), q.n, q.votes, name);
+    let c = weigh(mem, commit_row(q.view), q.n, q.commits, name);
+    if both(v.alone, c.alone) {
+        return lone(v.backed, c.backed, after, name);
+    }
+    let x = next_decided(mem, q, after);
+    let found = x.name;
+    Finding {
+        some: x.some,
+        name: found,
+        only: false,
+    }
 }
