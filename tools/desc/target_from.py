@@ -11,6 +11,7 @@
         'release::pass_views': {'req': 'yes', 'ens': 'r ≡ passed {0} {1}'},
         'release::look_at': {'req': 'yes', 'ens': 'r ≡ lookOf {0} {1}'},
         'blocks::held': {'ens': 'r ≡ heldOf {2} (take {1} {0}) {3}'},
+        'release::entries_below': {'ens': 'r ≡ cond ({0} .is) {1} 0'},
         'blocks::descends': {'ens': 'r ≡ descendsOf {2} (take {1} {0}) {3}'},
         'release::next_step': {'req': 'yes', 'ens': 'r ≡ stepOf {0} {1} {2} {3}'},
         'release::target_from': {'req': 'yes', 'ens': 'r ≡ targetFrom {3} (seen {2} {0} {1})'},
@@ -25,19 +26,20 @@
     'lets': [
         [
             ('over', 'Passes p (seen tip m ys) r0', 'passes tip m ys p r0 (asked .1 .0) e0'),
-            ('way', 'Follows r0 (seen tip m ys) r4', 'stepped tip m ys r0 r1 r2 r3 r4 e1 e2 e3 e4'),
-            ('going', 'r4 .goes ≡ true', 'is-true (r4 .goes) yes0'),
+            ('way', 'Follows r0 (seen tip m ys) r5', 'stepped tip m ys r0 r1 r2 r3 r4 r5 (asked .1 .0) e1 e2 e3 e4 e5'),
+            ('going', 'r5 .goes ≡ true', 'is-true (r5 .goes) yes0'),
         ],
         [
             ('over', 'Passes p (seen tip m ys) r0', 'passes tip m ys p r0 (asked .1 .0) e0'),
-            ('way', 'Follows r0 (seen tip m ys) r4', 'stepped tip m ys r0 r1 r2 r3 r4 e1 e2 e3 e4'),
+            ('way', 'Follows r0 (seen tip m ys) r5', 'stepped tip m ys r0 r1 r2 r3 r4 r5 (asked .1 .0) e1 e2 e3 e4 e5'),
         ],
     ],
     'says': [
-        '(e5 ∙ sym (way .on going) ∙ over .same)',
-        '(sym (way .off (is-false (r4 .goes) no0)) ∙ over .same)',
+        '(e6 ∙ sym (way .on going) ∙ over .same)',
+        '(sym (way .off (is-false (r5 .goes) no0)) ∙ over .same)',
     ],
     'spec': {
+        'mathlib.Core.Bool': ['cond'],
         'lib.ListN': ['take'],
         'Rattle.settings.specs.Quorum': ['largest', 'replicas'],
         'Rattle.memory.specs.Layout': ['memoryLength', 'settingsOf'],

@@ -15,8 +15,9 @@ use Rattle.blocks.specs.Store.{held, descends}
 use Rattle.memory.specs.declared.decided.Choice.{Choice}
 use Rattle.memory.specs.Layout.{settingsOf, blockCountOf}
 use Rattle.memory.specs.Window.{lowest, highest}
-use Rattle.memory.specs.Decided.{noChoice, nextDecided, tooFew}
+use Rattle.memory.specs.Decided.{noChoice, nextDecided, tooFew, alone, likely, survey}
 use Rattle.memory.proofs.Passing.{few-none}
+use Rattle.memory.proofs.Sole.{sole-last}
 use Rattle.counters.specs.declared.Counters.{Counters}
 use Rattle.protocol.specs.Work.{Work, n, viewNow, tip, blocks, heldBlock}
 use Rattle.protocol.specs.Rules.{tries, enoughToRelease, releasable, Pair, lowestPair, ballotViews}
@@ -24,6 +25,13 @@ use Rattle.release.specs.Search.{standing, seen, target, pairFrom, targe
 use Rattle.release.specs.declared.Place.{Place}
 use Rattle.release.specs.declared.Look.{Look}
 use Rattle.release.specs.declared.Step.{Step}
+
+-- ---- no quorum is empty
+pub some-fast : (s : Settings) {z : ℕ} → z ≡ fastQuorum s → 1 ≤ z
+some-fast s e = omega (arith, e)
+
+pub some-slow : (s : Settings) {z : ℕ} → z ≡ slowQuorum s → 1 ≤ z
+some-slow s e = omega (arith, e)
 
 -- what a step s at the place p says of the search in W
 pub record Follows (p : Place) (W : Work) (s : Step) : Type 0 where
@@ -69,27 +77,47 @@ module _ (v : ℕ) (a : Choice) (W : Work) where
   unfolding pairFrom releasable
   it-is-not k j e f = let g : suc j - 1 ≡ j = omega arith in rw (e, f, g) refl
 
-  found : (k j : ℕ) (s t : Bool) → x .some ≡ s → releases ≡ t
-      → Follows (placed v a k j) W (cond (s && ltb 0 j) (cond t (endsWith (placed v a k j) (target v (heldBlock W (x .name) .block))) (goesTo (placed v x k (j - 1)))) (nextView (placed v a k j) (tries W)))
+module _ (v : ℕ) (a : Choice) (W : Work) (small : n W ≤ largest) where
+  abbrev here : Choice
+  here = x v a W
+
+  abbrev onlyOne : Bool
+  onlyOne = alone (W .memory) (enoughToRelease v W) (likely (W .memory) (enoughToRelease v W))
+
+  -- the one name that the view decides is not to be released
+  names-done : onlyOne ≡ true → (k j : ℕ) → here .some ≡ true → releases v a W ≡ false → pairFrom (placed v a k (suc j)) W ≡ lowestPair (suc v) k W
+  names-done only k j e f =
+      let q = enoughToRelease v W in
+      let last : nextDecided (W .memory) q here ≡ noChoice = sole-last (W .memory) q small (likely (W .memory) q) only (some-fast (settingsOf (W .memory)) refl) (some-slow (settingsOf (W .memory)) refl) a e in
+      it-is-not v a W k j e f ∙ none-found v here W k (suc j - 1) (ap (λ (z : Choice). z .some) last)
+
+  found : (k j : ℕ) (s t u : Bool) → here .some ≡ s → releases v a W ≡ t → onlyOne ≡ u
+      → Follows (placed v a k j) W (cond (s && ltb 0 j) (cond t (endsWith (placed v a k j) (target v (heldBlock W (here .name) .block))) (cond u (nextView (placed v a k j) (tries W)) (goesTo (placed v here k (j - 1))))) (nextView (placed v a k j) (tries W)))
   unfolding targetFrom stepsLeft
-  found k zero true t e f = view-ends v a k 0 W (none-tried v a k W)
-  found k zero false t e f = view-ends v a k 0 W (none-tried v a k W)
-  found k (suc j) false t e f = view-ends v a k (suc j) W (none-found k (suc j) e)
-  found k (suc j) true true e f =
-      rw (lt-ltb 0 (suc j) (omega arith)) (record { on = λ h. absurd (false≢true h); off = λ h. it-is k j e f; less = λ h l. absurd (false≢true h); within = λ h. absurd (false≢true h) })
-  found k (suc j) true false e f =
-      rw (lt-ltb 0 (suc j) (omega arith)) (record { on = λ h. ap (λ (z : Pair). targetOf z W) (it-is-not k j e f); off = λ h. absurd (true≢false h); less = λ h l. omega arith; within = λ h. omega arith })
+  found k zero true t u e f o = view-ends v a k 0 W (none-tried v a k W)
+  found k zero false t u e f o = view-ends v a k 0 W (none-tried v a k W)
+  found k (suc j) false t u e f o = view-ends v a k (suc j) W (none-found v a W k (suc j) e)
+  found k (suc j) true true u e f o =
+      rw (lt-ltb 0 (suc j) (omega arith)) (record { on = λ h. absurd (false≢true h); off = λ h. it-is v a W k j e f; less = λ h l. absurd (false≢true h); within = λ h. absurd (false≢true h) })
+  found k (suc j) true false true e f o = rw (lt-ltb 0 (suc j) (omega arith)) (view-ends v a k (suc j) W (names-done o k j e f))
+  found k (suc j) true false false e f o =
+      rw (lt-ltb 0 (suc j) (omega arith)) (record { on = λ h. ap (λ (z : Pair). targetOf z W) (it-is-not v a W k j e f); off = λ h. absurd (true≢false h); less = λ h l. omega arith; within = λ h. omega arith })
 
 -- ---- ONE STEP
-pub follows : (p : Place) (W : Work)
+pub follows : (p : Place) (W : Work) → n W ≤ largest
     → let l = lookOf (W .memory) p in let b = heldBlock W (l .name) in Follows p W (stepOf p l b (descends (tip W) (blocks W) (b .block)))
-unfolding lookOf stepOf nextName
-follows p W = found (p .view) (record { some = p .some; name = p .name }) W (p .views) (p .tries) _ _ refl refl
+unfolding lookOf survey stepOf nextName
+follows p W small = found (p .view) (record { some = p .some; name = p .name }) W small (p .views) (p .tries) _ _ _ refl refl refl
 
 -- where no name was found, nothing else matters
 step-none : (p : Place) (l : Look) (b c : Found) (d e : Bool) → l .some ≡ false → stepOf p l b d ≡ stepOf p l c e
 unfolding stepOf
 step-none p l b c d e h = rw h refl
+
+-- where no block is held, it is no matter whether it descends
+step-missing : (p : Place) (l : Look) (b : Found) (d e : Bool) → b .is ≡ false → stepOf p l b d ≡ stepOf p l b e
+unfolding stepOf
+step-missing p l b d e h = rw h refl
 
 -- where one was found, it is looked for in all that are held
 count-all : (m : List ℕ) (p : Place) → lookOf m p .some ≡ true → lookOf m p .count ≡ blockCountOf m
@@ -97,10 +125,10 @@ unfolding lookOf
 count-all m p h = rw h refl
 
 -- as the code takes it
-pub stepped : (tip : Block) (m : List ℕ) (entries : List Block) (p : Place) (l : Look) (b : Found) (down : Bool) (s : Step) → l ≡ lookOf m p
-    → b ≡ held tip (take (l .count) entries) (l .name) → down ≡ descends tip (take (l .count) entries) (b .block) → s ≡ stepOf p l b down
+pub stepped : (tip : Block) (m : List ℕ) (entries : List Block) (p : Place) (l : Look) (b : Found) (below : ℕ) (down : Bool) (s : Step) → replicas (settingsOf m) ≤ largest → l ≡ lookOf m p
+    → b ≡ held tip (take (l .count) entries) (l .name) → below ≡ cond (b .is) (l .count) 0 → down ≡ descends tip (take below entries) (b .block) → s ≡ stepOf p l b down
     → Follows p (seen tip m entries) s
-stepped tip m entries p l b down s e₀ e₁ e₂ e₃ = go (l .some) refl
+stepped tip m entries p l b below down s small e₀ e₁ e₂ e₃ e₄ = go (l .some) refl
   where
     W : Work
     W = seen tip m entries
@@ -109,14 +137,18 @@ stepped tip m entries p l b down s e₀ e₁ e₂ e₃ = go (l .some) refl
     c = heldBlock W (l .name)
 
     is : stepOf p l b down ≡ stepOf p l c (descends tip (blocks W) (c .block)) → Follows p W s
-    is h = rw (e₃, h, e₀) (follows p W)
+    is h = rw (e₄, h, e₀) (follows p W small)
+
+    walked : (t : Bool) → b .is ≡ t → stepOf p l b down ≡ stepOf p l b (descends tip (take (l .count) entries) (b .block))
+    walked false f = step-missing p l b down (descends tip (take (l .count) entries) (b .block)) f
+    walked true f = let k : below ≡ l .count = e₂ ∙ ap (λ (z : Bool). cond z (l .count) 0) f in ap (stepOf p l b) (e₃ ∙ ap (λ (z : ℕ). descends tip (take z entries) (b .block)) k)
 
     go : (t : Bool) → l .some ≡ t → Follows p W s
     go false h = is (step-none p l b c down (descends tip (blocks W) (c .block)) h)
     go true h =
         let n : l .count ≡ blockCountOf m = ap (λ (z : Look). z .count) e₀ ∙ count-all m p (sym (ap (λ (z : Look). z .some) e₀) ∙ h) in
         let e-b : b ≡ c = e₁ ∙ ap (λ (k : ℕ). held tip (take k entries) (l .name)) n in
-        is (rw (e₂, n, e-b) refl)
+        is (walked (b .is) refl ∙ rw (n, e-b) refl)
 
 -- ---- VIEWS THAT ARE PASSED OVER
 -- the search from q is the search from p, and no longer
@@ -215,10 +247,3 @@ pub target-standing : (W : Work) → lowestTarget W ≡ lowestTarget (standing (
 unfolding targetOf lowestTarget
 target-standing W =
     rw (pair-bare (lowest (viewNow W)) (ballotViews W) W, pair-bare (lowest (viewNow W)) (ballotViews W) (standing (W .counters) (W .memory) (W .store))) refl
-
--- ---- no quorum is empty
-pub some-fast : (s : Settings) {z : ℕ} → z ≡ fastQuorum s → 1 ≤ z
-some-fast s e = omega (arith, e)
-
-pub some-slow : (s : Settings) {z : ℕ} → z ≡ slowQuorum s → 1 ≤ z
-some-slow s e = omega (arith, e)

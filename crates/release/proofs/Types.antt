@@ -20,12 +20,12 @@ use Rattle.release.proofs.Target.Laws as Target′
 use Rattle.release.specs.declared.Turn.{Turn}
 use Rattle.release.proofs.Turn as Turnᵐ
 use Rattle.release.proofs.Turn.Laws as Turn′
-use Rattle.act.specs.declared.Draft.{Draft}
-use Rattle.act.proofs.Draft as Draftᵐ
-use Rattle.act.proofs.Draft.Laws as Draft′
 use Rattle.release.specs.declared.Place.{Place}
 use Rattle.release.proofs.Place as Placeᵐ
 use Rattle.release.proofs.Place.Laws as Place′
+use Rattle.act.specs.declared.Draft.{Draft}
+use Rattle.act.proofs.Draft as Draftᵐ
+use Rattle.act.proofs.Draft.Laws as Draft′
 use Rattle.release.specs.declared.Look.{Look}
 use Rattle.release.proofs.Look as Lookᵐ
 use Rattle.release.proofs.Look.Laws as Look′
@@ -117,21 +117,6 @@ Turn-at x is = LL.owed Turnᵐ.the-type Turn′.the-laws x _ is .1 .1 .1 .0
 pub Turn-left : (x : Turn) → At Turnᴰ x → At word (x .left)
 Turn-left x is = LL.owed Turnᵐ.the-type Turn′.the-laws x _ is .1 .1 .1 .1 .0
 
-abbrev pub Draftᴿ : RattleType
-Draftᴿ = Draftᵐ.the-row
-
-abbrev pub Draftᵀ : Ty
-Draftᵀ = Draft′.mir
-
-abbrev pub Draftᴰ : Data Draftᴿ
-Draftᴰ = struct Draftᵐ.the-type Draft′.the-laws Draft′.the-plain Draft′.lowers
-
-pub Draft-counters : (x : Draft) → At Draftᴰ x → At Countersᴰ (x .counters)
-Draft-counters x is = again Countersᴰ (x .counters) _ (LL.owed Draftᵐ.the-type Draft′.the-laws x _ is .0)
-
-pub Draft-at : (x : Draft) → At Draftᴰ x → At word (x .at)
-Draft-at x is = LL.owed Draftᵐ.the-type Draft′.the-laws x _ is .1 .0
-
 abbrev pub Placeᴿ : RattleType
 Placeᴿ = Placeᵐ.the-row
 
@@ -156,6 +141,21 @@ Place-views x is = LL.owed Placeᵐ.the-type Place′.the-laws x _ is .1 .1 .1 .
 pub Place-tries : (x : Place) → At Placeᴰ x → At word (x .tries)
 Place-tries x is = LL.owed Placeᵐ.the-type Place′.the-laws x _ is .1 .1 .1 .1 .0
 
+abbrev pub Draftᴿ : RattleType
+Draftᴿ = Draftᵐ.the-row
+
+abbrev pub Draftᵀ : Ty
+Draftᵀ = Draft′.mir
+
+abbrev pub Draftᴰ : Data Draftᴿ
+Draftᴰ = struct Draftᵐ.the-type Draft′.the-laws Draft′.the-plain Draft′.lowers
+
+pub Draft-counters : (x : Draft) → At Draftᴰ x → At Countersᴰ (x .counters)
+Draft-counters x is = again Countersᴰ (x .counters) _ (LL.owed Draftᵐ.the-type Draft′.the-laws x _ is .0)
+
+pub Draft-at : (x : Draft) → At Draftᴰ x → At word (x .at)
+Draft-at x is = LL.owed Draftᵐ.the-type Draft′.the-laws x _ is .1 .0
+
 abbrev pub Lookᴿ : RattleType
 Lookᴿ = Lookᵐ.the-row
 
@@ -176,6 +176,9 @@ Look-count x is = LL.owed Lookᵐ.the-type Look′.the-laws x _ is .1 .1 .0
 
 pub Look-tries : (x : Look) → At Lookᴰ x → At word (x .tries)
 Look-tries x is = LL.owed Lookᵐ.the-type Look′.the-laws x _ is .1 .1 .1 .0
+
+pub Look-only : (x : Look) → At Lookᴰ x → At flag (x .only)
+Look-only x is = LL.owed Lookᵐ.the-type Look′.the-laws x _ is .1 .1 .1 .1 .0
 
 abbrev pub Stepᴿ : RattleType
 Stepᴿ = Stepᵐ.the-row

@@ -13,7 +13,7 @@ use Rattle.memory.specs.declared.decided.Choice.{Choice}
 use Rattle.memory.specs.declared.decided.Quest.{Quest}
 use Rattle.memory.specs.Layout.{settingsOf, blockCountOf}
 use Rattle.memory.specs.Window.{lowest, highest}
-use Rattle.memory.specs.Decided.{nextDecided, tooFew}
+use Rattle.memory.specs.Decided.{survey, tooFew}
 use Rattle.counters.specs.declared.Counters.{Counters}
 use Rattle.counters.specs.declared.Signed.{Signed}
 use Rattle.protocol.specs.Work.{Work, view, viewNow, heldBlock}
@@ -86,8 +86,8 @@ questOf m v =
 
 unfoldable pub lookOf : List ℕ → Place → Look
 lookOf m p =
-    let x = nextDecided m (questOf m (p .view)) (afterOf p) in
-    record { some = x .some; name = x .name; count = cond (x .some) (blockCountOf m) 0; tries = triesOf m }
+    let x = survey m (questOf m (p .view)) (afterOf p) in
+    record { some = x .some; name = x .name; count = cond (x .some) (blockCountOf m) 0; tries = triesOf m; only = x .only }
 
 abbrev pub goesTo : Place → Step
 goesTo p = record { goes = true; place = p; target = noTarget }
@@ -101,8 +101,12 @@ nextView p tries =
     (goesTo (record { view = p .view + 1; some = false; name = zeroName; views = p .views - 1; tries = tries }))
     (endsWith p noTarget)
 
+-- another name of the view, unless it decides no other
 unfoldable pub nextName : Place → Look → Step
-nextName p l = goesTo (record { view = p .view; some = l .some; name = l .name; views = p .views; tries = p .tries - 1 })
+nextName p l =
+    cond (l .only)
+    (nextView p (l .tries))
+    (goesTo (record { view = p .view; some = l .some; name = l .name; views = p .views; tries = p .tries - 1 }))
 
 -- the name that was found, the block b held of it, and whether that leads to the tip
 unfoldable pub stepOf : Place → Look → Found → Bool → Step

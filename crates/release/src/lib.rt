@@ -11,7 +11,7 @@ use counters::releasing;
 use memory::block_count;
 use memory::decided::Choice;
 use memory::decided::Quest;
-use memory::decided::next_decided;
+use memory::decided::survey;
 use memory::decided::too_few;
 use memory::own;
 use memory::put_block_count;
@@ -43,12 +43,14 @@ struct Place {
     tries: usize,
 }
 
-// What the memory says there: the next decided name, if there is one; in how many entries it is looked for, and how many names a view is tried for.
+// What the memory says there: the next decided name, if there is one; in how many entries it is looked for, how many names a view is tried for, and
+// whether it is clear that the view decides no other name.
 struct Look {
     some: bool,
     name: [u8; 32],
     count: usize,
     tries: usize,
+    only: bool,
 }
 
 // The block to release, if there is one, and the view of the votes or commits that decide it.
@@ -114,7 +116,7 @@ fn look_at(mem: &[u8], p: Place) -> Look
     let s = settings(mem);
     let n = s.n() as usize;
     let name = p.name;
-    let x = next_decided(
+    let x = survey(
         mem,
         Quest {
             view: p.view,
@@ -130,6 +132,7 @@ fn look_at(mem: &[u8], p: Place) -> Look
         name: found,
         count: entries_asked(mem, x.some),
         tries: n + n + 1,
+        only: x.only,
     }
 }
 
@@ -205,11 +208,14 @@ fn next_view(p: Place, tries: usize) -> Step
     }
 }
 
-// The name that was found is not to be released.
+// The name that was found is not to be released. Where the view decides no other, its names are done.
 fn next_name(p: Place, l: Look) -> Step
-    requires { ⌜ 1 ≤ p .tries ⌝ }
+    requires { ⌜ (1 ≤ p .tries) × (p .view + 1 < 2 ^ 64) ⌝ }
     ensures { λ r. ⌜ r ≡ nextName p l ⌝ }
 {
+    if l.only {
+        return next_view(p, l.tries);
+    }
     let name = l.name;
     let some = l.some;
     let place = Place {
@@ -225,6 +231,16 @@ fn next_name(p: Place, l: Look) -> Step
         place,
         target,
     }
+}
+
+// A block is walked down where it is held: otherwise over no entry.
+fn entries_below(b: Found, count: usize) -> usize
+    ensures { λ r. ⌜ r ≡ cond (b .is) count 0 ⌝ }
+{
+    if b.is {
+        return count;
+    }
+    0
 }
 
 // Every decision of the search, by value. b is what is held of the name that was found, and `down` whether it leads to the tip.
@@ -265,7 +281,8 @@ fn target_from(mem: &[u8], store: &[Block], tip: Block, p: Place) -> Target
     let q = pass_views(mem, p);
     let l = look_at(mem, q);
     let b = blocks::held(store, l.count, tip, l.name);
-    let down = blocks::descends(store, l.count, tip, b.block);
+    let below = entries_below(b, l.count);
+    let down = blocks::descends(store, below, tip, b.block);
     let s = next_step(q, l, b, down);
     if s.goes {
         target_from(mem, store, tip, s.place)

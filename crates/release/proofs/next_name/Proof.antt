@@ -5,17 +5,26 @@ use Rattle.release.proofs.next_name.Statement.{statement}
 use Rattle.release.proofs.next_name.Tie as tie
 use Rattle.release.proofs.next_name.Reads as reads
 use Rattle.release.proofs.next_name.Lts as lts
+use Rattle.release.proofs.next_view.Reads as next-view-reads
 use Rattle.release.proofs.no_target.Reads as no-target-reads
 
-sub-t7 : tie.Need-sub-t7
-sub-t7 c = search needs
+next-view-requires : tie.Need-next-view-requires
+next-view-requires c κs = search needs
+
+returns : tie.Need-returns
+unfolding nextName
+returns c = rw (c .before .if1 .taken, c .next-view .ensures)
+
+sub-t8 : tie.Need-sub-t8
+sub-t8 c = search needs
 
 no-target-requires : tie.Need-no-target-requires
 no-target-requires c κs = search needs
 
-returns : tie.Need-returns
+returns-2 : tie.Need-returns-2
 unfolding nextName
-returns c = rw (c .no-target .ensures)
+returns-2 c = rw (c .before .before .before .if1 .left, c .no-target .ensures)
 
 pub next-name-spec : {M : Type 1} → statement M
-next-name-spec = tie.close (tie.spec sub-t7 no-target-requires returns)
+next-name-spec =
+    tie.close (tie.spec next-view-requires returns sub-t8 no-target-requires returns-2)
