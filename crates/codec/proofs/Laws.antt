@@ -132,6 +132,14 @@ pub part-drop : (s : List ℕ) (a b n : ℕ) → part (drop a s) b n ≡ part s 
 unfolding part
 part-drop s a b n = rw drop-drop
 
+-- a part of a part
+pub part-part : (s : List ℕ) (at n i k : ℕ) → at + n ≤ length s → i + k ≤ n → part (part s at n) i k ≡ part s (at + i) k
+part-part s at n i k h l =
+    let f : length (part (part s at n) i k) ≡ k = length-part (part s at n) i k (omega (arith, length-part s at n h)) in
+    ext-getD 0 (part (part s at n) i k) (part s (at + i) k) (f ∙ sym (length-part s (at + i) k (omega arith)))
+    (λ j b. let g : j < k = omega arith in
+    getD-part (part s at n) i k j 0 g ∙ getD-part s at n (i + j) 0 (omega arith) ∙ ap (λ (m : ℕ). getD s m 0) (omega arith) ∙ sym (getD-part s (at + i) k j 0 g))
+
 -- the rest of a list, `&s[at..]`
 pub part-rest : (s : List ℕ) (at : ℕ) → take (length s - at) (drop at s) ≡ drop at s
 part-rest s at = take-all (length s - at) (drop at s) (simp length-drop (omega arith))

@@ -20,6 +20,10 @@ bytes-take (suc n) [] b i = lit< tt
 bytes-take (suc n) (x ∷ s) b zero = b 0
 bytes-take (suc n) (x ∷ s) b (suc i) = bytes-take n s (λ j. b (suc j)) i
 
+pub bytes-part : (s : List ℕ) (at n : ℕ) → IsBytes s → IsBytes (part s at n)
+unfolding part
+bytes-part s at n b = bytes-take n (drop at s) (bytes-drop at s b)
+
 -- THE fact over the byte count: k bytes make a number below 256 ^ k
 pub leNat-lt : (s : List ℕ) → IsBytes s → leNat s < 256 ^ length s
 unfolding leNat

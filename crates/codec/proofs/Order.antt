@@ -23,18 +23,6 @@ module _ (a b : List ℕ) (i : ℕ) (ha : i < length a) (hb : i < length b) wher
   unfolding sameBytes
   same-not e = rw (drop-cons a i 0, drop-cons b i 0, ne-eqb _ _ e)
 
-  pub less-on : getD a i 0 ≡ getD b i 0 → lessBytes (drop i a) (drop i b) ≡ lessBytes (drop (i + 1) a) (drop (i + 1) b)
-  unfolding lessBytes
-  less-on e = rw (add-one, drop-cons a i 0, drop-cons b i 0, eq-eqb _ _ e, le-ltb _ _ (le-of-eq (sym e)))
-
-  pub less-is : getD a i 0 < getD b i 0 → lessBytes (drop i a) (drop i b) ≡ true
-  unfolding lessBytes
-  less-is h = rw (drop-cons a i 0, drop-cons b i 0, lt-ltb _ _ h)
-
-  pub less-not : getD b i 0 < getD a i 0 → lessBytes (drop i a) (drop i b) ≡ false
-  unfolding lessBytes
-  less-not h = rw (drop-cons a i 0, drop-cons b i 0, le-ltb (getD a i 0) (getD b i 0) (omega arith), ne-eqb (getD a i 0) (getD b i 0) (omega arith))
-
 module _ (a b : List ℕ) (i : ℕ) (ha : length a ≤ i) (hb : length b ≤ i) where
   pub same-end : sameBytes (drop i a) (drop i b) ≡ true
   unfolding sameBytes
@@ -119,6 +107,13 @@ less-trans (x ∷ a) (y ∷ b) (z ∷ c) p q =
     (λ h. ⊎-elim (λ k. less-head x z a c (omega arith)) (λ k. less-head x z a c (omega arith)) (less-cases y z b c q))
     (λ h. ⊎-elim (λ k. less-head x z a c (omega arith)) (λ k. less-tail x z a c (h .0 ∙ k .0) (less-trans a b c (h .1) (k .1))) (less-cases y z b c q))
     (less-cases x y a b p)
+
+pub less-asym : (a b : List ℕ) → lessBytes a b ≡ true → lessBytes b a ≡ false
+less-asym a b h = go (lessBytes b a) refl
+  where
+    go : (t : Bool) → lessBytes b a ≡ t → t ≡ false
+    go true e = absurd (true≢false (sym (less-trans a b a h e) ∙ less-irrefl a))
+    go false e = refl
 
 pub which : (m n : ℕ) → (m < n) ⊎ ((m ≡ n) ⊎ (n < m))
 which m n = go (ltb m n) refl (eqb m n) refl

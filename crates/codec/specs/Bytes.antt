@@ -1,4 +1,4 @@
--- A part of a list of bytes and a list with a part replaced; numbers as little-endian bytes (01: Records). Assumes nothing.
+-- A part of a list of bytes and a list with a part replaced; numbers as little-endian bytes (01: Records), and as big-endian ones, by which names are compared. Assumes nothing.
 use Prim.Native.Nat.{ℕ, zero, suc, _+_, _*_, _/_, _%_, _<_}
 use mathlib.Core.List.{List, [], _∷_}
 use lib.ListN.{take, drop, set, getD}
@@ -20,6 +20,15 @@ patch s at (x ∷ v) = patch (set s at x) (suc at) v
 unfoldable pub leNat : List ℕ → ℕ
 leNat [] = 0
 leNat (x ∷ s) = x + 256 * leNat s
+
+-- the number that is m, continued by the bytes s, the highest first
+unfoldable pub beFrom : ℕ → List ℕ → ℕ
+beFrom m [] = m
+beFrom m (x ∷ s) = beFrom (256 * m + x) s
+
+-- the number whose bytes are s, the highest first
+abbrev pub beNat : List ℕ → ℕ
+beNat s = beFrom 0 s
 
 -- the k lowest bytes of n, the lowest first
 unfoldable pub leBytes : ℕ → ℕ → List ℕ

@@ -1,5 +1,5 @@
-// Bytes of a lent region: parts read and replaced, little-endian numbers, names.
-// Promises: what each function reads or leaves is `part`, `patch`, `leNat` or `leBytes` of its input. A `requires` asks only that the
+// Bytes of a lent region: parts read and replaced, numbers, names.
+// Promises: what each function reads or leaves is `part`, `patch`, `leNat`, `beNat` or `leBytes` of its input. A `requires` asks only that the
 // place lies inside the region. Rests on nothing but the language's library.
 pub mod name;
 pub mod num;

@@ -1,8 +1,8 @@
-// Little-endian numbers. Reading and writing at every width rest on one loop each, over the byte count.
+// Little-endian numbers; reading and writing at every width rest on one loop each, over the byte count. Big-endian ones, for the order of names.
 ghost use mathlib.Core.Path.{_≡_};
 ghost use Prim.Native.Nat.{_+_, _≤_};
 ghost use lib.ListN.{length};
-ghost use Rattle.codec.specs.Bytes.{part, patch, leNat, leBytes};
+ghost use Rattle.codec.specs.Bytes.{part, patch, leNat, beNat, leBytes};
 
 fn wide(x: u8) -> u64
     ensures { λ r. ⌜ r ≡ x ⌝ }
@@ -20,6 +20,20 @@ pub fn le(s: &[u8]) -> u64
     while 0 < i {
         i -= 1;
         x = wide(s[i]) + 256 * x;
+    }
+    x
+}
+
+// The number whose big-endian bytes are s.
+fn be(s: &[u8]) -> u64
+    requires { ⌜ length (now s) ≤ 8 ⌝ }
+    ensures { λ r. ⌜ r ≡ beNat (now (s .entry)) ⌝ }
+{
+    let mut i = 0;
+    let mut x: u64 = 0;
+    while i < s.len() {
+        x = 256 * x + wide(s[i]);
+        i += 1;
     }
     x
 }
@@ -44,6 +58,14 @@ pub fn le_at(mem: &[u8], at: usize, k: usize) -> u64
     ensures { λ r. ⌜ r ≡ leNat (part (now (mem .entry)) at k) ⌝ }
 {
     le(&mem[at..at + k])
+}
+
+// The big-endian number in the k bytes from place at on.
+pub fn be_at(mem: &[u8], at: usize, k: usize) -> u64
+    requires { ⌜ (k ≤ 8) × (at + k ≤ length (now mem)) ⌝ }
+    ensures { λ r. ⌜ r ≡ beNat (part (now (mem .entry)) at k) ⌝ }
+{
+    be(&mem[at..at + k])
 }
 
 pub fn u16_at(mem: &[u8], at: usize) -> u16
