@@ -2,8 +2,7 @@
 use certificate::safe::signs;
 use certificate::signer_count;
 use codec::clear;
-use codec::name::same;
-use codec::name_at;
+use codec::name::is_at;
 use codec::num::put_u64;
 use codec::num::u64_at;
 use codec::put;
@@ -107,7 +106,7 @@ fn backs(mem: &[u8], row: usize, name: [u8; 32], i: usize) -> bool
     ensures { λ r. ⌜ r ≡ backs (now (mem .entry)) row name i ⌝ }
 {
     if has(mem, row, i as u64) {
-        return same(name_at(mem, entry_at(row, 32, i)), name);
+        return is_at(mem, entry_at(row, 32, i), name);
     }
     false
 }
