@@ -21,10 +21,11 @@ use Rattle.memory.proofs.Sole.{sole-last}
 use Rattle.counters.specs.declared.Counters.{Counters}
 use Rattle.protocol.specs.Work.{Work, n, viewNow, tip, blocks, heldBlock}
 use Rattle.protocol.specs.Rules.{tries, enoughToRelease, releasable, Pair, lowestPair, ballotViews}
-use Rattle.release.specs.Search.{standing, seen, target, pairFrom, targetOf, targetFrom, lowestTarget, firstPlace, questOf, lookOf, goesTo, endsWith, nextView, nextName, stepOf, atNextView, passing, passed, stepsLeft}
+use Rattle.release.specs.Search.{standing, seen, target, pairFrom, targetOf, targetFrom, lowestTarget, firstPlace, viewsAfter, questOf, lookOf, goesTo, endsWith, nextView, nextName, stepOf, atNextView, passing, passed, stepsLeft}
 use Rattle.release.specs.declared.Place.{Place}
 use Rattle.release.specs.declared.Look.{Look}
 use Rattle.release.specs.declared.Step.{Step}
+use Rattle.release.specs.declared.Target.{Target}
 
 -- ---- no quorum is empty
 pub some-fast : (s : Settings) {z : ℕ} → z ≡ fastQuorum s → 1 ≤ z
@@ -210,16 +211,76 @@ unfolding passed passing
 pass-end m p h = let e : p .views ≡ 0 = omega (arith, h) in rw e refl
 
 -- ---- WHERE IT BEGINS
+module _ (m : List ℕ) (first : ℕ) where
+  pub after-most : (k : ℕ) → viewsAfter m first k ≤ k
+  unfolding viewsAfter
+  after-most zero = omega arith
+  after-most (suc k) = go (tooFew m (questOf m (first + suc k))) (after-most k)
+    where
+      go : (t : Bool) → viewsAfter m first k ≤ k → cond t (viewsAfter m first k) (suc k) ≤ suc k
+      go true h = omega (arith, h)
+      go false h = omega arith
+
+  -- the loop: what is left to leave out stays the same
+  pub after-on : (k : ℕ) → 1 ≤ k → tooFew m (questOf m (first + k)) ≡ true → viewsAfter m first k ≡ viewsAfter m first (k - 1)
+  unfolding viewsAfter
+  after-on zero h few = absurd (omega (arith, h))
+  after-on (suc k) h few = let e : suc k - 1 ≡ k = omega arith in rw (few, e) refl
+
+  pub after-stop : (k : ℕ) → 1 ≤ k → tooFew m (questOf m (first + k)) ≡ false → k ≡ viewsAfter m first k
+  unfolding viewsAfter
+  after-stop zero h some = absurd (omega (arith, h))
+  after-stop (suc k) h some = rw some refl
+
+  pub after-end : (k : ℕ) → k ≤ 0 → 0 ≡ viewsAfter m first k
+  unfolding viewsAfter
+  after-end zero h = refl
+  after-end (suc k) h = absurd (omega (arith, h))
+
 pub first-within : (v : ℕ) (m : List ℕ) → v ≤ lastView → firstPlace v m .view + firstPlace v m .views < 2 ^ 63
 unfolding firstPlace
-first-within v m h = omega arith
+first-within v m h = omega (arith, after-most m (lowest v) (highest v - lowest v))
 
-pub begins : (W : Work) → 1 ≤ viewNow W → viewNow W ≤ lastView → targetFrom (firstPlace (viewNow W) (W .memory)) W ≡ lowestTarget W
-unfolding pairFrom lowestPair targetFrom lowestTarget firstPlace
-begins W a b =
-    let k = highest (viewNow W) - lowest (viewNow W) in
-    let more : ballotViews W ≡ suc k = omega arith in
-    rw more refl
+module _ (W : Work) (small : n W ≤ largest) where
+  abbrev lowestOf : ℕ → ℕ → Target
+  lowestOf v k = targetOf (lowestPair v k W) W
+
+  none-in : (v : ℕ) → tooFew (W .memory) (questOf (W .memory) v) ≡ true → (k : ℕ) → lowestPair v (suc k) W ≡ lowestPair (suc v) k W
+  unfolding pairFrom lowestPair
+  none-in v few k =
+      let none : nextDecided (W .memory) (enoughToRelease v W) noChoice ≡ noChoice = few-none (W .memory) (questOf (W .memory) v) small few noChoice in
+      none-found v noChoice W k (tries W) (ap (λ (z : Choice). z .some) none)
+
+  -- a last view that decides nothing is left out
+  last-left : (k v : ℕ) → tooFew (W .memory) (questOf (W .memory) (v + k)) ≡ true → lowestOf v (suc k) ≡ lowestOf v k
+  unfolding targetOf lowestPair
+  last-left zero v few = ap (λ (z : Pair). targetOf z W) (none-in v (let e : v + 0 ≡ v = omega arith in rw e at few) 0)
+  last-left (suc k) v few = go (releasable v W (tries W) noChoice .some) (last-left k (suc v) (let e : v + suc k ≡ suc v + k = omega arith in rw e at few))
+    where
+      x : Choice
+      x = releasable v W (tries W) noChoice
+
+      go : (t : Bool) → lowestOf (suc v) (suc k) ≡ lowestOf (suc v) k
+          → targetOf (cond t (record { at = v; name = x }) (lowestPair (suc v) (suc k) W)) W ≡ targetOf (cond t (record { at = v; name = x }) (lowestPair (suc v) k W)) W
+      go true e = refl
+      go false e = e
+
+  trimmed : (v k : ℕ) → lowestOf v (suc (viewsAfter (W .memory) v k)) ≡ lowestOf v (suc k)
+  unfolding viewsAfter
+  trimmed v zero = refl
+  trimmed v (suc k) = go (tooFew (W .memory) (questOf (W .memory) (v + suc k))) refl (trimmed v k)
+    where
+      go : (t : Bool) → tooFew (W .memory) (questOf (W .memory) (v + suc k)) ≡ t → lowestOf v (suc (viewsAfter (W .memory) v k)) ≡ lowestOf v (suc k)
+          → lowestOf v (suc (cond t (viewsAfter (W .memory) v k) (suc k))) ≡ lowestOf v (suc (suc k))
+      go true few e = e ∙ sym (last-left (suc k) v few)
+      go false some e = refl
+
+  pub begins : 1 ≤ viewNow W → viewNow W ≤ lastView → targetFrom (firstPlace (viewNow W) (W .memory)) W ≡ lowestTarget W
+  unfolding pairFrom lowestPair targetFrom lowestTarget firstPlace
+  begins a b =
+      let k = highest (viewNow W) - lowest (viewNow W) in
+      let more : ballotViews W ≡ suc k = omega arith in
+      trimmed (lowest (viewNow W)) k ∙ ap (lowestOf (lowest (viewNow W))) (sym more)
 
 -- ---- IT READS TIP, MEMORY AND STORE
 abbrev pub bare : Work → Work

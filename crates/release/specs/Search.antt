@@ -69,20 +69,25 @@ lowestTarget W = targetOf (lowestPair (lowest (viewNow W)) (ballotViews W) W) W
 abbrev pub triesOf : List ℕ → ℕ
 triesOf m = replicas (settingsOf m) + replicas (settingsOf m) + 1
 
+-- `enoughToRelease` of protocol
+abbrev pub questOf : List ℕ → ℕ → Quest
+questOf m v =
+    record { view = v; n = replicas (settingsOf m); votes = fastQuorum (settingsOf m); commits = slowQuorum (settingsOf m) }
+
+-- of k views after the first, those up to the last one with enough votes or commits
+unfoldable pub viewsAfter : List ℕ → ℕ → ℕ → ℕ
+viewsAfter m first zero = zero
+viewsAfter m first (suc k) = cond (tooFew m (questOf m (first + suc k))) (viewsAfter m first k) (suc k)
+
 unfoldable pub firstPlace : ℕ → List ℕ → Place
 firstPlace v m =
     record {
       view = lowest v;
       some = false;
       name = zeroName;
-      views = highest v - lowest v;
+      views = viewsAfter m (lowest v) (highest v - lowest v);
       tries = triesOf m;
     }
-
--- `enoughToRelease` of protocol
-abbrev pub questOf : List ℕ → ℕ → Quest
-questOf m v =
-    record { view = v; n = replicas (settingsOf m); votes = fastQuorum (settingsOf m); commits = slowQuorum (settingsOf m) }
 
 unfoldable pub lookOf : List ℕ → Place → Look
 lookOf m p =

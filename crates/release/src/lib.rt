@@ -24,7 +24,7 @@ ghost use mathlib.Core.Path.{_≡_};
 ghost use mathlib.Core.Bool.{true, cond};
 ghost use Prim.Native.Nat.{_+_, _*_, _^_, _<_, _≤_};
 ghost use lib.ListN.{length, take};
-ghost use Rattle.settings.specs.Quorum.{largest, replicas};
+ghost use Rattle.settings.specs.Quorum.{largest, lastView, replicas};
 ghost use Rattle.wire.specs.Fields.{releaseLength};
 ghost use Rattle.memory.specs.Layout.{memoryLength, settingsOf, blockCountOf, withBlockCount};
 ghost use Rattle.memory.specs.Decided.{tooFew};
@@ -32,7 +32,7 @@ ghost use Rattle.protocol.specs.Refusals.{storeLength, regular};
 ghost use Rattle.protocol.specs.Rules.{again};
 ghost use Rattle.act.specs.Draft.{workOf, left, leftBy, Ready};
 ghost use Rattle.release.specs.Released.{Releases, Released, ReleasedIf, firstTurn, allowedOf, nextTurn, draftAt, Turned, Ends, lastReleased, finishedOf};
-ghost use Rattle.release.specs.Search.{standing, knownBy, seen, noTarget, firstPlace, lookOf, nextView, nextName, stepOf, targetFrom, lowestTarget, questOf, atNextView, passed};
+ghost use Rattle.release.specs.Search.{standing, knownBy, seen, noTarget, firstPlace, lookOf, nextView, nextName, stepOf, viewsAfter, targetFrom, lowestTarget, questOf, atNextView, passed};
 
 // Where the search stands: at a view, above a name or at its first; how many views come after it, and how many of its names are still tried.
 struct Place {
@@ -82,8 +82,38 @@ fn no_target() -> Target
     }
 }
 
+// So few votes and commits are kept for the view that it decides nothing.
+fn decides_nothing(mem: &[u8], view: u64) -> bool
+    requires { ⌜ (memoryLength ≤ length (now mem)) × (replicas (settingsOf (now mem)) ≤ largest) ⌝ }
+    ensures { λ r. ⌜ r ≡ tooFew (now (mem .entry)) (questOf (now (mem .entry)) view) ⌝ }
+{
+    let s = settings(mem);
+    let q = Quest {
+        view,
+        n: s.n() as usize,
+        votes: s.fast_quorum(),
+        commits: s.slow_quorum(),
+    };
+    too_few(mem, q)
+}
+
+// How many views after the first one are searched, of so many at most: the last ones are left out where they decide nothing.
+fn views_after(mem: &[u8], first: u64, most: u64) -> u64
+    requires { ⌜ (memoryLength ≤ length (now mem)) × ((replicas (settingsOf (now mem)) ≤ largest) × (first + most < 2 ^ 63)) ⌝ }
+    ensures { λ r. ⌜ r ≡ viewsAfter (now (mem .entry)) first most ⌝ }
+{
+    let mut k = most;
+    while 0 < k {
+        if !decides_nothing(mem, first + k) {
+            return k;
+        }
+        k -= 1;
+    }
+    0
+}
+
 fn first_place(mem: &[u8], view: View) -> Place
-    requires { ⌜ (memoryLength ≤ length (now mem)) × ((1 ≤ view .0) × (view .0 ≤ 2 ^ 62)) ⌝ }
+    requires { ⌜ (memoryLength ≤ length (now mem)) × ((replicas (settingsOf (now mem)) ≤ largest) × ((1 ≤ view .0) × (view .0 ≤ lastView))) ⌝ }
     ensures { λ r. ⌜ r ≡ firstPlace (view .0) (now (mem .entry)) ⌝ }
 {
     let v = view.0;
@@ -93,7 +123,7 @@ fn first_place(mem: &[u8], view: View) -> Place
         view: low,
         some: false,
         name: [0u8; 32],
-        views: (highest(v) - low) as usize,
+        views: views_after(mem, low, highest(v) - low) as usize,
         tries: n + n + 1,
     }
 }
@@ -134,21 +164,6 @@ fn look_at(mem: &[u8], p: Place) -> Look
         tries: n + n + 1,
         only: x.only,
     }
-}
-
-// So few votes and commits are kept for the view that it decides nothing.
-fn decides_nothing(mem: &[u8], view: u64) -> bool
-    requires { ⌜ (memoryLength ≤ length (now mem)) × (replicas (settingsOf (now mem)) ≤ largest) ⌝ }
-    ensures { λ r. ⌜ r ≡ tooFew (now (mem .entry)) (questOf (now (mem .entry)) view) ⌝ }
-{
-    let s = settings(mem);
-    let q = Quest {
-        view,
-        n: s.n() as usize,
-        votes: s.fast_quorum(),
-        commits: s.slow_quorum(),
-    };
-    too_few(mem, q)
 }
 
 // The start of the view after a place's.

@@ -8,6 +8,7 @@ use Rattle.release.proofs.first_place.Lts as lts
 use Rattle.memory.proofs.settings.Reads as settings-reads
 use Rattle.memory.proofs.window.highest.Reads as highest-reads
 use Rattle.memory.proofs.window.lowest.Reads as lowest-reads
+use Rattle.release.proofs.views_after.Reads as views-after-reads
 use Rattle.settings.proofs.Settings.n.Reads as n-reads
 
 settings-requires : tie.Need-settings-requires
@@ -22,18 +23,21 @@ lowest-requires c κs = search needs
 highest-requires : tie.Need-highest-requires
 highest-requires c κs = search needs
 
-sub-t9 : tie.Need-sub-t9
-sub-t9 c = search needs
+sub-views-after : tie.Need-sub-views-after
+sub-views-after c = search needs
 
-add-t11 : tie.Need-add-t11
-add-t11 c = search needs
+views-after-requires : tie.Need-views-after-requires
+views-after-requires c κs = search needs
 
 add-t12 : tie.Need-add-t12
 add-t12 c = search needs
 
+add-t13 : tie.Need-add-t13
+add-t13 c = search needs
+
 returns : tie.Need-returns
 unfolding firstPlace
-returns c = rw (c .highest .ensures, c .before .lowest .ensures, c .before .before .n .ensures, c .before .before .before .settings .ensures)
+returns c = rw (c .views-after .ensures, c .before .highest .ensures, c .before .before .lowest .ensures, c .before .before .before .n .ensures, c .before .before .before .before .settings .ensures)
 
 pub first-place-spec : {M : Type 1} → statement M
 first-place-spec =
@@ -43,7 +47,8 @@ first-place-spec =
     n-requires
     lowest-requires
     highest-requires
-    sub-t9
-    add-t11
+    sub-views-after
+    views-after-requires
     add-t12
+    add-t13
     returns)
