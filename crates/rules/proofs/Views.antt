@@ -6,13 +6,14 @@ use native.Mathlib.Omega.{arith}
 use mathlib.Core.Path.{_≡_, refl, sym, ap, _∙_}
 use mathlib.Core.Bool.{Bool, true, false, cond, _&&_}
 use mathlib.Core.List.{List, []}
-use borrow.Author.Tests.{lt-ltb, le-ltb, le-leb, lt-leb, ne-eqb}
+use borrow.Author.Tests.{lt-ltb, le-ltb, le-leb, lt-leb, eq-eqb, ne-eqb}
 use lib.Dec.{leb}
 use lib.ListN.{length}
 use Rattle.settings.specs.declared.Settings.{Settings}
 use Rattle.settings.specs.Quorum.{lastView, replicas, blockQuorum, timeoutQuorum}
 use Rattle.codec.specs.Bytes.{IsBytes, part, patch, leNat, leBytes}
 use Rattle.codec.proofs.Le.{leNat-leBytes}
+use Rattle.codec.proofs.Order.{less-irrefl}
 use Rattle.wire.specs.Fields.{kindOf, senderOf, viewOf}
 use Rattle.wire.specs.Content.{certificateOf, byBlock}
 use Rattle.wire.specs.Encode.{headerBytes, timeoutsBytes, blockCertificateBytes}
@@ -220,6 +221,11 @@ module _ (d : Draft) (m o : List ℕ) (v : ℕ) (l : d .at ≤ length o) {x : Ch
 pub lower-view : (v : ℕ) (x : List ℕ) (c : Counters) → v < c .lock .view .0 → outranks (blockCertificate v x 0) (locksOf c .lock) ≡ false
 unfolding outranks locksOf lockOf
 lower-view v x c h = rw (ne-eqb v (c .lock .view .0) (λ e. absurd (omega (arith, h, e))), le-ltb (c .lock .view .0) v (omega (arith, h))) refl
+
+-- at the lock's view, of the lock's own name
+pub same-name : (v : ℕ) (c : Counters) → v ≡ c .lock .view .0 → outranks (blockCertificate v (c .lock .name) 0) (locksOf c .lock) ≡ false
+unfolding outranks locksOf lockOf
+same-name v c e = rw (eq-eqb v (c .lock .view .0) e, less-irrefl (c .lock .name)) refl
 
 pub C-below : (d : Draft) (m o : List ℕ) (v : ℕ) → d .at ≤ length o → v < d .counters .lock .view .0 → Does (ruleC v) d m o d m o
 unfolding ruleC

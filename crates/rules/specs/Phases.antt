@@ -1,14 +1,16 @@
 -- The run of the rules A, B and C: the first three parts of `settle` of protocol. Assumes nothing.
 use Prim.Native.Nat.{ℕ, zero, suc, _-_}
-use mathlib.Core.Bool.{Bool, true, false, cond}
+use mathlib.Core.Bool.{Bool, true, false, cond, not}
 use mathlib.Core.List.{List}
-use lib.Dec.{leb, ltb}
+use lib.Dec.{leb, ltb, eqb}
 use Rattle.settings.specs.declared.Settings.{Settings}
 use Rattle.settings.specs.Quorum.{blockQuorum, replicas}
 use Rattle.memory.specs.declared.decided.Quest.{Quest}
 use Rattle.memory.specs.Layout.{settingsOf, voteRow, timeoutRow}
 use Rattle.memory.specs.Kept.{keptCount}
 use Rattle.memory.specs.Window.{lowest, highest}
+use Rattle.memory.specs.Decided.{aloneIn}
+use Rattle.counters.specs.declared.Signed.{Signed}
 use Rattle.protocol.specs.Work.{Work, viewNow}
 use Rattle.protocol.specs.Events.{progress}
 use Rattle.protocol.specs.Rules.{formedBlock, ruleA, ruleB, ruleC, each, timeoutViews, ballotViews}
@@ -34,7 +36,7 @@ phaseC W = each ruleC (lowest (viewNow W)) (ballotViews W) W
 unfoldable pub phases : Work → Work
 phases W = phaseC (phaseB (phaseA W))
 
--- ---- NOTHING TO DO: tests by the numbers of kept timeouts and votes alone
+-- ---- NOTHING TO DO: tests by counts of kept timeouts and votes alone
 -- a test fails at each of k views from v on
 unfoldable pub nowhere : (ℕ → Bool) → ℕ → ℕ → Bool
 nowhere test v zero = true
@@ -48,9 +50,13 @@ module _ (m : List ℕ) where
   unfoldable pub fewTimeouts : ℕ → Bool
   fewTimeouts view = nowhere (echoable (settingsOf m)) view (suc (highest view) - view)
 
-  -- enough votes are kept for a view, and it isn't below the lock's
-  abbrev pub certifiable : Settings → ℕ → ℕ → Bool
-  certifiable s lock v = cond (ltb v lock) false (leb (blockQuorum s) (keptCount m (voteRow v) (replicas s)))
+  -- a certificate that outranks the lock may be formed: never below the lock's view; at it where a quorum may be for another name, since the lock's own
+  -- doesn't outrank it; above it where enough votes are kept
+  abbrev pub certifiable : Settings → Signed → ℕ → Bool
+  certifiable s lock v =
+      cond (ltb v (lock .view .0)) false
+      (cond (eqb v (lock .view .0)) (not (aloneIn m (voteRow v) (replicas s) (blockQuorum s) (lock .name)))
+      (leb (blockQuorum s) (keptCount m (voteRow v) (replicas s))))
 
-  unfoldable pub fewVotes : ℕ → ℕ → Bool
+  unfoldable pub fewVotes : ℕ → Signed → Bool
   fewVotes view lock = nowhere (certifiable (settingsOf m) lock) (lowest view) (suc (highest view) - lowest view)

@@ -3,6 +3,8 @@ use crate::rule_a;
 use crate::rule_b;
 use crate::rule_c;
 use act::Draft;
+use counters::Signed;
+use memory::decided::weigh;
 use memory::kept::kept_count;
 use memory::kept::timeout_row;
 use memory::kept::vote_row;
@@ -98,19 +100,24 @@ fn few_timeouts(mem: &[u8], view: u64) -> bool
     true
 }
 
-// So many votes are kept for a view that rule C may apply.
-fn certifiable(mem: &[u8], s: Settings, view: u64, lock: u64) -> bool
+// So many votes are kept for a view that rule C may apply: at the lock's own view, so many for another name than the lock's.
+fn certifiable(mem: &[u8], s: Settings, view: u64, lock: Signed) -> bool
     requires { ⌜ (memoryLength ≤ length (now mem)) × (replicas s ≤ largest) ⌝ }
     ensures { λ r. ⌜ r ≡ certifiable (now (mem .entry)) s lock view ⌝ }
 {
-    if view < lock {
+    if view < lock.view.0 {
         return false;
+    }
+    if view == lock.view.0 {
+        let name = lock.name;
+        let w = weigh(mem, vote_row(view), s.n() as usize, s.block_quorum(), name);
+        return !w.alone;
     }
     s.block_quorum() <= kept_count(mem, vote_row(view), s.n())
 }
 
 // For none of the views from the lock's on enough votes are kept for rule C.
-fn few_votes(mem: &[u8], view: u64, lock: u64) -> bool
+fn few_votes(mem: &[u8], view: u64, lock: Signed) -> bool
     requires { ⌜ (memoryLength ≤ length (now mem)) × ((replicas (settingsOf (now mem)) ≤ largest) × ((1 ≤ view) × (view ≤ lastView))) ⌝ }
     ensures { λ r. ⌜ r ≡ fewVotes (now (mem .entry)) view lock ⌝ }
 {
@@ -126,7 +133,7 @@ fn few_votes(mem: &[u8], view: u64, lock: u64) -> bool
     true
 }
 
-// Rules A, B and C. Mostly none of them applies, which the numbers of kept timeouts and votes tell before anything is moved.
+// Rules A, B and C. Mostly none of them applies, which the counts of kept timeouts and votes tell before anything is moved.
 pub fn run(mem: &mut [u8], out: &mut [u8], d: Draft) -> Draft
     requires { ⌜ Ready d (now mem) (now out) (112 * 4 + (entryRoom * 4 + 104 * 8)) ⌝ }
     ensures { λ r. ⌜ Does phases d (now (mem .entry)) (now (out .entry)) r (now (mem .exit)) (now (out .exit)) ⌝ }
@@ -134,7 +141,7 @@ pub fn run(mem: &mut [u8], out: &mut [u8], d: Draft) -> Draft
     let c = d.counters;
     let lock = c.lock;
     if few_timeouts(mem, c.view.0) {
-        if few_votes(mem, c.view.0, lock.view.0) {
+        if few_votes(mem, c.view.0, lock) {
             return d;
         }
     }

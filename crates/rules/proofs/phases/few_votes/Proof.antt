@@ -36,7 +36,7 @@ certifiable-requires : tie.Need-certifiable-requires Inv-loop μ-loop
 certifiable-requires c κs = (c .before .before .before .before .before .before .pre .0, rw (c .before .before .before .before .settings .ensures) (c .before .before .before .before .before .before .pre .1 .0))
 
 returns : tie.Need-returns Inv-loop μ-loop
-returns c = nowhere-off (certifiable _ _ _) _ (c .before .before .before .loop .at) (c .before .before .loop-test .taken) (sym (c .before .certifiable .ensures) ∙ c .if1 .taken) ∙ sym (c .before .before .before .loop .inv .1) ∙ votes-are _ _ (c .before .before .before .before .before .before .settings .ensures) (c .before .before .before .before .before .highest .ensures) _ _ (c .before .before .before .before .lowest .ensures)
+returns c = nowhere-off (certifiable _ _ (c .before .before .before .before .before .before .before .before .args .lock)) _ (c .before .before .before .loop .at) (c .before .before .loop-test .taken) (sym (c .before .certifiable .ensures) ∙ c .if1 .taken) ∙ sym (c .before .before .before .loop .inv .1) ∙ votes-are _ _ (c .before .before .before .before .before .before .settings .ensures) (c .before .before .before .before .before .highest .ensures) _ _ (c .before .before .before .before .lowest .ensures)
 
 add-at : tie.Need-add-at Inv-loop μ-loop
 add-at c = omega (arith, c .before .before .loop-test .taken, c .before .before .before .before .before .highest .ensures)
@@ -45,10 +45,10 @@ loop-less : tie.Need-loop-less Inv-loop μ-loop
 loop-less c = omega (arith, c .before .before .loop-test .taken)
 
 loop-again : tie.Need-loop-again Inv-loop μ-loop
-loop-again c = (omega (arith, c .before .before .loop-test .taken), c .before .before .before .loop .inv .1 ∙ nowhere-on (certifiable _ _ _) _ (c .before .before .before .loop .at) (c .before .before .loop-test .taken) (sym (c .before .certifiable .ensures) ∙ c .if1 .left))
+loop-again c = (omega (arith, c .before .before .loop-test .taken), c .before .before .before .loop .inv .1 ∙ nowhere-on (certifiable _ _ (c .before .before .before .before .before .before .before .before .args .lock)) _ (c .before .before .before .loop .at) (c .before .before .loop-test .taken) (sym (c .before .certifiable .ensures) ∙ c .if1 .left))
 
 returns-2 : tie.Need-returns-2 Inv-loop μ-loop
-returns-2 c = nowhere-end (certifiable _ _ _) _ (c .before .loop .at) (omega (arith, c .loop-test .left)) ∙ sym (c .before .loop .inv .1) ∙ votes-are _ _ (c .before .before .before .before .settings .ensures) (c .before .before .before .highest .ensures) _ _ (c .before .before .lowest .ensures)
+returns-2 c = nowhere-end (certifiable _ _ (c .before .before .before .before .before .before .args .lock)) _ (c .before .loop .at) (omega (arith, c .loop-test .left)) ∙ sym (c .before .loop .inv .1) ∙ votes-are _ _ (c .before .before .before .before .settings .ensures) (c .before .before .before .highest .ensures) _ _ (c .before .before .lowest .ensures)
 
 pub few-votes-spec : {M : Type 1} → statement M
 few-votes-spec =
