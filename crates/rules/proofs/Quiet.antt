@@ -79,17 +79,36 @@ module _ (W : Work) where
   abbrev m : List ℕ
   m = W .memory
 
-  A-rests : (v : ℕ) → echoable m (settingsOf m) v ≡ false → ruleA v W ≡ W
-  unfolding ruleA
-  A-rests v e =
-      let few : leb (suc (settingsOf m .f)) (keptCount m (timeoutRow v) (replicas (settingsOf m))) ≡ false = lt-leb (suc (settingsOf m .f)) (keptCount m (timeoutRow v) (replicas (settingsOf m))) (omega (arith, ltb-false (settingsOf m .f) (keptCount m (timeoutRow v) (replicas (settingsOf m))) e)) in
-      rw few (last-false (leb (viewNow W) v) (ltb (timed W) v) (sendTimeout v W) W)
+  -- rules A and B at a view
+  module _ (v : ℕ) where
+    abbrev timeouts : ℕ
+    timeouts = keptCount m (timeoutRow v) (replicas (settingsOf m))
 
-  B-rests : (v : ℕ) → echoable m (settingsOf m) v ≡ false → ruleB v W ≡ W
-  unfolding ruleB
-  B-rests v e =
-      let few : leb (timeoutQuorum (settingsOf m)) (keptCount m (timeoutRow v) (replicas (settingsOf m))) ≡ false = lt-leb (timeoutQuorum (settingsOf m)) (keptCount m (timeoutRow v) (replicas (settingsOf m))) (omega (arith, ltb-false (settingsOf m .f) (keptCount m (timeoutRow v) (replicas (settingsOf m))) e)) in
-      rw few (second-false (leb (viewNow W) v) (progress (formed m v (n W) (own W)) W) W)
+    A-sent : ltb (timed W) v ≡ false → ruleA v W ≡ W
+    unfolding ruleA
+    A-sent e = rw (e, second-false (leb (viewNow W) v) (sendTimeout v W) W) refl
+
+    A-few : timeouts ≤ settingsOf m .f → ruleA v W ≡ W
+    unfolding ruleA
+    A-few h = rw (lt-leb (suc (settingsOf m .f)) timeouts (omega (arith, h))) (last-false (leb (viewNow W) v) (ltb (timed W) v) (sendTimeout v W) W)
+
+    B-few : timeouts < timeoutQuorum (settingsOf m) → ruleB v W ≡ W
+    unfolding ruleB
+    B-few h = rw (lt-leb (timeoutQuorum (settingsOf m)) timeouts h) (second-false (leb (viewNow W) v) (progress (formed m v (n W) (own W)) W) W)
+
+    A-rests : echoable m (settingsOf m) (timed W) v ≡ false → ruleA v W ≡ W
+    A-rests e = go (ltb (timed W) v) refl e
+      where
+        go : (t : Bool) → ltb (timed W) v ≡ t → cond t (ltb (settingsOf m .f) timeouts) (leb (timeoutQuorum (settingsOf m)) timeouts) ≡ false → ruleA v W ≡ W
+        go true f g = A-few (omega (arith, ltb-false (settingsOf m .f) timeouts g))
+        go false f g = A-sent f
+
+    B-rests : echoable m (settingsOf m) (timed W) v ≡ false → ruleB v W ≡ W
+    B-rests e = go (ltb (timed W) v) e
+      where
+        go : (t : Bool) → cond t (ltb (settingsOf m .f) timeouts) (leb (timeoutQuorum (settingsOf m)) timeouts) ≡ false → ruleB v W ≡ W
+        go true g = B-few (omega (arith, ltb-false (settingsOf m .f) timeouts g))
+        go false g = B-few (omega (arith, leb-false (timeoutQuorum (settingsOf m)) timeouts g))
 
   -- rule C at a view: the name that is found, if any
   module _ (small : replicas (settingsOf m) ≤ largest) (v : ℕ) where
@@ -146,7 +165,7 @@ module _ (W : Work) where
         go false f false g h = C-few (omega (arith, leb-false quorum (keptCount m (voteRow v) size) h))
 
 -- ---- NO RULE APPLIES
-pub all-rest : (d : Draft) (m o : List ℕ) → d .at ≤ length o → replicas (settingsOf m) ≤ largest → fewTimeouts m (d .counters .view .0) ≡ true → fewVotes m (d .counters .view .0) (d .counters .lock) ≡ true
+pub all-rest : (d : Draft) (m o : List ℕ) → d .at ≤ length o → replicas (settingsOf m) ≤ largest → fewTimeouts m (d .counters .view .0) (d .counters .timed .0) ≡ true → fewVotes m (d .counters .view .0) (d .counters .lock) ≡ true
     → Does phases d m o d m o
 unfolding fewTimeouts fewVotes phases phaseA phaseB phaseC
 all-rest d m o l small t v = does-stay phases d m o l rests
@@ -156,16 +175,16 @@ all-rest d m o l small t v = does-stay phases d m o l rests
         let W = workOf d m o s in
         let c = d .counters .view .0 in
         let k = suc (highest c) - c in
-        let a : each ruleA c k W ≡ W = each-rests ruleA (echoable m (settingsOf m)) W (A-rests W) c k t in
-        let b : each ruleB c k W ≡ W = each-rests ruleB (echoable m (settingsOf m)) W (B-rests W) c k t in
+        let a : each ruleA c k W ≡ W = each-rests ruleA (echoable m (settingsOf m) (d .counters .timed .0)) W (A-rests W) c k t in
+        let b : each ruleB c k W ≡ W = each-rests ruleB (echoable m (settingsOf m) (d .counters .timed .0)) W (B-rests W) c k t in
         let z : each ruleC (lowest c) (suc (highest c) - lowest c) W ≡ W = each-rests ruleC (certifiable m (settingsOf m) (d .counters .lock)) W (C-rests W small) (lowest c) (suc (highest c) - lowest c) v in
         rw (a, b, z) refl
 
 -- ---- the two loops, as the code takes them
 module _ (m : List ℕ) (view : ℕ) {s : Settings} {last : ℕ} (e : s ≡ settingsOf m) (f : last ≡ highest view) where
-  pub timeouts-are : nowhere (echoable m s) view (suc last - view) ≡ fewTimeouts m view
+  pub timeouts-are : (timed : ℕ) → nowhere (echoable m s timed) view (suc last - view) ≡ fewTimeouts m view timed
   unfolding fewTimeouts
-  timeouts-are = rw (e, f) refl
+  timeouts-are timed = rw (e, f) refl
 
   pub votes-are : (lock : Signed) (low : ℕ) → low ≡ lowest view → nowhere (certifiable m s lock) low (suc last - low) ≡ fewVotes m view lock
   unfolding fewVotes

@@ -4,7 +4,7 @@ use mathlib.Core.Bool.{Bool, true, false, cond, not}
 use mathlib.Core.List.{List}
 use lib.Dec.{leb, ltb, eqb}
 use Rattle.settings.specs.declared.Settings.{Settings}
-use Rattle.settings.specs.Quorum.{blockQuorum, replicas}
+use Rattle.settings.specs.Quorum.{blockQuorum, timeoutQuorum, replicas}
 use Rattle.memory.specs.declared.decided.Quest.{Quest}
 use Rattle.memory.specs.Layout.{settingsOf, voteRow, timeoutRow}
 use Rattle.memory.specs.Kept.{keptCount}
@@ -43,12 +43,14 @@ nowhere test v zero = true
 nowhere test v (suc k) = cond (test v) false (nowhere test (suc v) k)
 
 module _ (m : List ℕ) where
-  -- f+1 timeouts are kept for a view
-  abbrev pub echoable : Settings → ℕ → Bool
-  echoable s v = ltb (s .f) (keptCount m (timeoutRow v) (replicas s))
+  -- rule A or B may apply: while own timeout is to be sent where f+1 are kept, since B takes more; later where enough are kept for B
+  abbrev pub echoable : Settings → ℕ → ℕ → Bool
+  echoable s timed v =
+      let kept = keptCount m (timeoutRow v) (replicas s) in
+      cond (ltb timed v) (ltb (s .f) kept) (leb (timeoutQuorum s) kept)
 
-  unfoldable pub fewTimeouts : ℕ → Bool
-  fewTimeouts view = nowhere (echoable (settingsOf m)) view (suc (highest view) - view)
+  unfoldable pub fewTimeouts : ℕ → ℕ → Bool
+  fewTimeouts view timed = nowhere (echoable (settingsOf m) timed) view (suc (highest view) - view)
 
   -- a certificate that outranks the lock may be formed: never below the lock's view; at it where a quorum may be for another name, since the lock's own
   -- doesn't outrank it; above it where enough votes are kept

@@ -75,24 +75,28 @@ fn run_all(mem: &mut [u8], out: &mut [u8], d: Draft) -> Draft
     run_c(mem, out, b)
 }
 
-// So many timeouts are kept for a view that rule A may apply; rule B takes more.
-fn echoable(mem: &[u8], s: Settings, view: u64) -> bool
+// So many timeouts are kept for a view that rule A or B may apply. Once own timeout is sent only B does, which takes more.
+fn echoable(mem: &[u8], s: Settings, view: u64, timed: u64) -> bool
     requires { ⌜ (memoryLength ≤ length (now mem)) × (replicas s ≤ largest) ⌝ }
-    ensures { λ r. ⌜ r ≡ echoable (now (mem .entry)) s view ⌝ }
+    ensures { λ r. ⌜ r ≡ echoable (now (mem .entry)) s timed view ⌝ }
 {
-    (s.f as u64) < kept_count(mem, timeout_row(view), s.n())
+    let kept = kept_count(mem, timeout_row(view), s.n());
+    if timed < view {
+        return (s.f as u64) < kept;
+    }
+    s.timeout_quorum() <= kept
 }
 
 // For none of the views from here on so many timeouts are kept that rule A or B applies.
-fn few_timeouts(mem: &[u8], view: u64) -> bool
+fn few_timeouts(mem: &[u8], view: u64, timed: u64) -> bool
     requires { ⌜ (memoryLength ≤ length (now mem)) × ((replicas (settingsOf (now mem)) ≤ largest) × ((1 ≤ view) × (view ≤ lastView))) ⌝ }
-    ensures { λ r. ⌜ r ≡ fewTimeouts (now (mem .entry)) view ⌝ }
+    ensures { λ r. ⌜ r ≡ fewTimeouts (now (mem .entry)) view timed ⌝ }
 {
     let s = settings(mem);
     let last = highest(view);
     let mut at = view;
     while at <= last {
-        if echoable(mem, s, at) {
+        if echoable(mem, s, at, timed) {
             return false;
         }
         at += 1;
@@ -140,7 +144,7 @@ pub fn run(mem: &mut [u8], out: &mut [u8], d: Draft) -> Draft
 {
     let c = d.counters;
     let lock = c.lock;
-    if few_timeouts(mem, c.view.0) {
+    if few_timeouts(mem, c.view.0, c.timed.0) {
         if few_votes(mem, c.view.0, lock) {
             return d;
         }

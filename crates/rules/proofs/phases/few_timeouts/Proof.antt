@@ -14,10 +14,10 @@ use Rattle.memory.proofs.window.highest.Reads as highest-reads
 use Rattle.rules.proofs.phases.echoable.Reads as echoable-reads
 
 abbrev Inv-loop : tie.InvT-loop
-Inv-loop mem view s last at₀ at = (at ≤ suc last) × (nowhere (echoable mem s) view (suc last - view) ≡ nowhere (echoable mem s) at (suc last - at))
+Inv-loop mem view timed s last at₀ at = (at ≤ suc last) × (nowhere (echoable mem s timed) view (suc last - view) ≡ nowhere (echoable mem s timed) at (suc last - at))
 
 abbrev μ-loop : tie.MeasureT-loop
-μ-loop mem view s last at₀ at = suc last - at
+μ-loop mem view timed s last at₀ at = suc last - at
 
 settings-requires : tie.Need-settings-requires Inv-loop μ-loop
 settings-requires c κs = search needs
@@ -32,7 +32,7 @@ echoable-requires : tie.Need-echoable-requires Inv-loop μ-loop
 echoable-requires c κs = (c .before .before .before .before .before .pre .0, rw (c .before .before .before .settings .ensures) (c .before .before .before .before .before .pre .1 .0))
 
 returns : tie.Need-returns Inv-loop μ-loop
-returns c = nowhere-off (echoable _ _) _ (c .before .before .before .loop .at) (c .before .before .loop-test .taken) (sym (c .before .echoable .ensures) ∙ c .if1 .taken) ∙ sym (c .before .before .before .loop .inv .1) ∙ timeouts-are _ _ (c .before .before .before .before .before .settings .ensures) (c .before .before .before .before .highest .ensures)
+returns c = nowhere-off (echoable _ _ _) _ (c .before .before .before .loop .at) (c .before .before .loop-test .taken) (sym (c .before .echoable .ensures) ∙ c .if1 .taken) ∙ sym (c .before .before .before .loop .inv .1) ∙ timeouts-are _ _ (c .before .before .before .before .before .settings .ensures) (c .before .before .before .before .highest .ensures) _
 
 add-at : tie.Need-add-at Inv-loop μ-loop
 add-at c = omega (arith, c .before .before .loop-test .taken, c .before .before .before .before .highest .ensures)
@@ -41,10 +41,10 @@ loop-less : tie.Need-loop-less Inv-loop μ-loop
 loop-less c = omega (arith, c .before .before .loop-test .taken)
 
 loop-again : tie.Need-loop-again Inv-loop μ-loop
-loop-again c = (omega (arith, c .before .before .loop-test .taken), c .before .before .before .loop .inv .1 ∙ nowhere-on (echoable _ _) _ (c .before .before .before .loop .at) (c .before .before .loop-test .taken) (sym (c .before .echoable .ensures) ∙ c .if1 .left))
+loop-again c = (omega (arith, c .before .before .loop-test .taken), c .before .before .before .loop .inv .1 ∙ nowhere-on (echoable _ _ _) _ (c .before .before .before .loop .at) (c .before .before .loop-test .taken) (sym (c .before .echoable .ensures) ∙ c .if1 .left))
 
 returns-2 : tie.Need-returns-2 Inv-loop μ-loop
-returns-2 c = nowhere-end (echoable _ _) _ (c .before .loop .at) (omega (arith, c .loop-test .left)) ∙ sym (c .before .loop .inv .1) ∙ timeouts-are _ _ (c .before .before .before .settings .ensures) (c .before .before .highest .ensures)
+returns-2 c = nowhere-end (echoable _ _ _) _ (c .before .loop .at) (omega (arith, c .loop-test .left)) ∙ sym (c .before .loop .inv .1) ∙ timeouts-are _ _ (c .before .before .before .settings .ensures) (c .before .before .highest .ensures) _
 
 pub few-timeouts-spec : {M : Type 1} → statement M
 few-timeouts-spec =
