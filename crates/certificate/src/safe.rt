@@ -131,6 +131,16 @@ fn built_by(
     if view.0 == 0 {
         return k;
     }
+    // Counted only if the certificate would outrank k, which its signers don't bear on.
+    let wanted = Certificate {
+        block: false,
+        view,
+        name,
+        signers: 0,
+    };
+    if !wanted.outranks(k) {
+        return k;
+    }
     let b = count_backing(settings.n(), rec, count, high);
     if b.count < settings.weak_quorum() {
         return k;
