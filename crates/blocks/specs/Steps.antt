@@ -1,7 +1,7 @@
--- One step of the walk from parent to parent, and of the drop. Assumes nothing.
-use Prim.Native.Nat.{ℕ, _+_, _-_, _^_}
+-- The place of an entry, and one step of the walk from parent to parent and of the drop. Assumes nothing.
+use Prim.Native.Nat.{ℕ, suc, _+_, _-_, _^_}
 use mathlib.Core.Bool.{Bool, true, false, cond, _&&_, _||_}
-use mathlib.Core.List.{List}
+use mathlib.Core.List.{List, [], _∷_}
 use lib.Dec.{eqb}
 use lib.ListN.{drop}
 use Rattle.codec.specs.Names.{sameBytes}
@@ -10,6 +10,11 @@ use Rattle.blocks.specs.declared.Block.{Block}
 use Rattle.blocks.specs.declared.Found.{Found}
 use Rattle.blocks.specs.declared.Onward.{Onward}
 use Rattle.blocks.specs.declared.Spot.{Spot}
+
+-- the place of the first entry of a name, or the length where there is none
+unfoldable pub placeOf : List ℕ → List Block → ℕ
+placeOf x [] = 0
+placeOf x (b ∷ l) = cond (sameBytes (b .name) x) 0 (suc (placeOf x l))
 
 -- from the block b, of whose parent's name c is held: it goes on at c's block, or it ends here, well where it ends at the tip
 abbrev pub onwardOf : Block → Block → Found → Onward

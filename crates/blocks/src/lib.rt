@@ -11,7 +11,7 @@ ghost use lib.Seq.{sets};
 ghost use Rattle.codec.specs.Bytes.{patch};
 ghost use Rattle.codec.specs.Names.{sameBytes};
 ghost use Rattle.wire.specs.Encode.{releaseBytes};
-ghost use Rattle.blocks.specs.Steps.{onwardOf, alike, shortened, keptFrom, spotOf};
+ghost use Rattle.blocks.specs.Steps.{onwardOf, alike, shortened, keptFrom, spotOf, placeOf};
 ghost use Rattle.blocks.specs.Store.{genesis, found, missing, find, held, descends, ancestry, releases, kept, dropped};
 use settings::Height;
 use settings::View;
@@ -80,27 +80,67 @@ pub fn fill(store: &mut [Block], at: usize, b: Block)
     }
 }
 
-// The one loop over the store: the first n entries, the last one first, so that the first entry of the name is what stays.
-fn scan(store: &[Block], n: usize, name: [u8; 32], none: Found) -> Found
-    requires { ⌜ (n ≤ length (now store)) × (none ≡ missing) ⌝ }
-    ensures { λ r. ⌜ r ≡ find name (take n (now (store .entry))) ⌝ }
+fn name_of(store: &[Block], i: usize) -> [u8; 32]
+    requires { ⌜ i < length (now store) ⌝ }
+    ensures { λ r. ⌜ r ≡ getD (now (store .entry)) i genesis .name ⌝ }
 {
-    let mut s = none;
+    let b = entry(store, i);
+    b.name
+}
+
+// Place i, if the name x that stands there is the one looked for, and otherwise the place found before. Mostly the first bytes tell.
+fn earlier(x: [u8; 32], name: [u8; 32], i: usize, before: usize) -> usize
+    ensures { λ r. ⌜ r ≡ cond (sameBytes x name) i before ⌝ }
+{
+    if x[0] != name[0] {
+        return before;
+    }
+    if codec::name::same(x, name) {
+        return i;
+    }
+    before
+}
+
+// The one loop over the store: the place of the first entry of the name, or n. It begins at the last entry, so that the first of the name is what stays.
+fn scan(store: &[Block], n: usize, name: [u8; 32]) -> usize
+    requires { ⌜ n ≤ length (now store) ⌝ }
+    ensures { λ r. ⌜ r ≡ placeOf name (take n (now (store .entry))) ⌝ }
+{
+    let mut at = n;
     let mut i = n;
     while 0 < i {
         i -= 1;
-        let b = entry(store, i);
-        s = pick(b, name, s);
+        let x = name_of(store, i);
+        at = earlier(x, name, i, at);
     }
-    s
+    at
+}
+
+fn present(b: Block) -> Found
+    ensures { λ r. ⌜ r ≡ found b ⌝ }
+{
+    Found { is: true, block: b }
+}
+
+// What stands at a place among the first n.
+fn found_at(store: &[Block], at: usize, n: usize) -> Found
+    requires { ⌜ n ≤ length (now store) ⌝ }
+    ensures { λ r. ⌜ r ≡ cond (ltb at n) (found (getD (now (store .entry)) at genesis)) missing ⌝ }
+{
+    if at < n {
+        let b = entry(store, at);
+        present(b)
+    } else {
+        nothing()
+    }
 }
 
 pub fn search(store: &[Block], count: usize, name: [u8; 32]) -> Found
     ensures { λ r. ⌜ r ≡ find name (take count (now (store .entry))) ⌝ }
 {
     let n = lesser(count, store.len());
-    let none = nothing();
-    scan(store, n, name, none)
+    let at = scan(store, n, name);
+    found_at(store, at, n)
 }
 
 // The tip first, and then the entries.
