@@ -8,6 +8,7 @@
 pub mod held;
 pub mod kinds;
 pub mod life;
+pub mod markdown;
 pub mod measure;
 pub mod plot;
 pub mod releases;

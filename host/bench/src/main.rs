@@ -1,31 +1,34 @@
 //! Measures sections, prints their tables, writes them as CSV, draws two of them. `USAGE` has all options.
 
 use std::process::ExitCode;
-use std::{fs, io, path::Path};
+use std::{fmt, fs, io, path::Path};
 
 use bench::table::Table;
-use bench::{held, kinds, plot, releases, size, timeouts};
+use bench::{held, kinds, markdown, plot, releases, size, timeouts};
 
 const USAGE: &str = "\
-usage: bench [--calls N] [--rounds N] [--section NAME].. [--csv FOLDER] [--svg OUT]
+usage: bench [--calls N] [--rounds N] [--section NAME].. [--markdown] [--csv FOLDER] [--svg OUT]
   --calls N       calls of the random streams for each cluster, 60,000 if not given
   --rounds N      how often each call is timed, 21 if not given
   --section NAME  only this one; may be given several times
+  --markdown      prints the tables as docs/PERFORMANCE.md has them
   --csv FOLDER    writes each section's table to FOLDER/NAME.csv
   --svg OUT       draws the sections size and held
 sections:
   kinds     every kind of call, accepted and refused, on random streams; n 6, 13, 32
+  size      accepted calls of a cluster at work; n 6 to 32
   held      accepted calls while 0 to 120 blocks are held above the tip; n 6
   timeouts  one view change by timeouts; n 6, 13, 32
-  size      accepted calls of a cluster at work; n 6 to 32
   releases  chains of 1 to 128 blocks released at once, and the longest calls known";
 
-const SECTIONS: [&str; 5] = ["kinds", "held", "timeouts", "size", "releases"];
+/// In the document's order.
+const SECTIONS: [&str; 5] = ["kinds", "size", "held", "timeouts", "releases"];
 
 struct Options {
     calls: usize,
     rounds: usize,
     sections: Vec<String>,
+    markdown: bool,
     csv: Option<String>,
     svg: Option<String>,
 }
@@ -33,8 +36,13 @@ struct Options {
 impl Options {
     /// None where they can't be read.
     fn read(mut arguments: impl Iterator<Item = String>) -> Option<Options> {
-        let mut options = Options { calls: 60_000, rounds: 21, sections: Vec::new(), csv: None, svg: None };
+        let (sections, markdown) = (Vec::new(), false);
+        let mut options = Options { calls: 60_000, rounds: 21, sections, markdown, csv: None, svg: None };
         while let Some(option) = arguments.next() {
+            if option == "--markdown" {
+                options.markdown = true;
+                continue;
+            }
             let value = arguments.next()?;
             match option.as_str() {
                 "--calls" => options.calls = value.parse().ok().filter(|calls| *calls > 0)?,
@@ -89,17 +97,26 @@ fn run(options: &Options) -> io::Result<()> {
 fn measure(section: &str, options: &Options) -> Table {
     let table = match section {
         "kinds" => return measure_kinds(options),
+        "size" => size::measure(options.rounds),
         "held" => held::measure(options.rounds),
         "timeouts" => timeouts::measure(options.rounds),
-        "size" => size::measure(options.rounds),
         _ => releases::measure(options.rounds),
     };
-    println!("{table}");
+    print(&table, &[&table], options);
     table
 }
 
 fn measure_kinds(options: &Options) -> Table {
     let measured = kinds::measure(options.calls, options.rounds);
-    measured.iter().for_each(|kinds| println!("{kinds}"));
-    kinds::table(&measured)
+    let table = kinds::table(&measured);
+    print(&table, &measured, options);
+    table
+}
+
+/// As Markdown, or else its plain parts.
+fn print(table: &Table, parts: &[impl fmt::Display], options: &Options) {
+    match options.markdown {
+        true => println!("{}", markdown::section(table)),
+        false => parts.iter().for_each(|part| println!("{part}")),
+    }
 }

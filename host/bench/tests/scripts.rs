@@ -3,7 +3,7 @@
 use bench::measure::{Mark, Script, Times};
 use bench::sides::{Library, Oracle, Side};
 use bench::table::{Row, Table};
-use bench::{held, plot, releases, size, timeouts};
+use bench::{held, kinds, markdown, plot, releases, size, timeouts};
 use streams::Kind;
 
 fn assert_alike(script: &Script) {
@@ -58,4 +58,21 @@ fn a_table_as_csv() {
     let table = Table { name: "size", title: String::new(), columns: &["n", "call"], rows };
     assert_eq!(table.csv(), "n,call,library ns,oracle ns,ratio\n6,Vote,1500,500,3.00\n6,\"one, two\",1500,500,3.00\n");
     assert_eq!(table.series(&["Vote"]), [(6.0, [1500.4, 500.0])]);
+}
+
+/// Headings, and tables with their figures left out.
+fn forms(text: &str) -> Vec<String> {
+    let form = |cell: &str| if cell.contains(" / ") { "figures".to_string() } else { cell.to_string() };
+    let is_kept = |line: &&str| line.starts_with("## ") || line.starts_with('|');
+    text.lines().filter(is_kept).map(|line| line.split('|').map(form).collect::<Vec<_>>().join("|")).collect()
+}
+
+#[test]
+fn tables_as_markdown_are_those_of_the_document() {
+    let document = include_str!("../../../docs/PERFORMANCE.md");
+    let [first, behind] = ["## Every kind of call", "## Where the time goes"].map(|heading| document.find(heading));
+    let document = &document[first.expect("the first table")..behind.expect("what follows the tables")];
+    let kinds = kinds::table(&kinds::measure(6000, 1));
+    let tables = [kinds, size::measure(1), held::measure(1), timeouts::measure(1), releases::measure(1)];
+    assert_eq!(forms(&tables.each_ref().map(markdown::section).concat()), forms(document));
 }
