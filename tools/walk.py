@@ -17,7 +17,7 @@
     measure   of a function that calls itself: the parameter that falls, or a path into it (`b .height .0`).         weight   a function from that to a number, where it is none
     falls    [proof ..]   of each call of itself
     types     {crate: the crate whose Types.antt has its structs}, where that is another
-    local     the module with the steps that lend a local and a `&mut S` again, and with `forks` (crates/run/proofs/Local.antt); then a branch goes by `forks`, which is cheaper to check
+    local     the module with the steps that lend a local and a `&mut S` again, and with `forks` (crates/walks/proofs/Local.antt); then a branch goes by `forks`, which is cheaper to check
     like      the name of a description without fn, for what several share: its keys, callees and imports are added
     spec      {module: [names]} to import: definitions and lemmas.          lemmas   text put in front          about   a sentence for the head of the file
 The proofs may name: the parameters; P-is (that the plain parameter P is of its type: `.1` of a number's is its bound); P-room (of a slice); `asked` (the requires);

@@ -1,7 +1,7 @@
 {
     'fn': 'run::play',
     'kit': 'walks',
-    'local': 'Rattle.run.proofs.Local',
+    'local': 'Rattle.walks.proofs.Local',
     'types': {'settings': 'counters', 'wire': 'counters'},
     'about': 'It calls itself: the method of `mutual-elim`, at the level.',
     'params': ['cs', 'm', 'ys', 'out', 'rec', 'lv', 'k'],

@@ -1,7 +1,7 @@
 {
     'fn': 'run::record_call',
     'kit': 'walks',
-    'local': 'Rattle.run.proofs.Local',
+    'local': 'Rattle.walks.proofs.Local',
     'types': {'settings': 'counters', 'wire': 'counters'},
     'params': ['cs', 'm', 'ys', 'out', 'rec', 'go', 'n', 'ans'],
     'callees': {

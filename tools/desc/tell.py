@@ -1,7 +1,7 @@
 {
     'fn': 'run::tell',
     'kit': 'walks',
-    'local': 'Rattle.run.proofs.Local',
+    'local': 'Rattle.walks.proofs.Local',
     'types': {'settings': 'counters', 'wire': 'counters'},
     'params': ['cs', 'gone', 'ans', 'k'],
     'callees': {

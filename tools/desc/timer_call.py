@@ -1,7 +1,7 @@
 {
     'fn': 'run::timer_call',
     'kit': 'walks',
-    'local': 'Rattle.run.proofs.Local',
+    'local': 'Rattle.walks.proofs.Local',
     'types': {'settings': 'counters', 'wire': 'counters'},
     'params': ['cs', 'm', 'ys', 'out', 'go', 'v', 'ans'],
     'callees': {

@@ -1,7 +1,7 @@
 {
     'fn': 'run::with_counters',
     'kit': 'walks',
-    'local': 'Rattle.run.proofs.Local',
+    'local': 'Rattle.walks.proofs.Local',
     'types': {'settings': 'counters', 'wire': 'counters'},
     'params': ['m', 'ys', 'out', 'rec'],
     'callees': {

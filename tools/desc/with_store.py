@@ -1,7 +1,7 @@
 {
     'fn': 'run::with_store',
     'kit': 'walks',
-    'local': 'Rattle.run.proofs.Local',
+    'local': 'Rattle.walks.proofs.Local',
     'types': {'settings': 'counters', 'wire': 'counters'},
     'params': ['m', 'out', 'rec'],
     'callees': {

@@ -19,10 +19,6 @@ weakCertificate v x g = record { block = false; view = record { 0 = v }; name = 
 abbrev pub genesisCertificate : Certificate
 genesisCertificate = blockCertificate 0 zeroName 0
 
--- best weak (none)
-abbrev pub noWeak : Certificate
-noWeak = weakCertificate 0 zeroName 0
-
 -- "then the smaller name": the one place that decides between certificates of one view and kind
 abbrev pub tieBreak : Certificate → Certificate → Bool
 tieBreak a b = lessBytes (a .name) (b .name)

@@ -5,7 +5,7 @@ use Rattle.walks.proofs.Walk.{pass1, pass0, assigns-last, agg, whole, sub, look
 use Rattle.walks.proofs.Data.{fits, word, flag}
 use Rattle.walks.proofs.Calls.{end, held, made, out, so, of, asks, back-again, came, came-last, full, empty, leave, ends}
 use Rattle.walks.proofs.Lent.{lying, lend-mut}
-use Rattle.run.proofs.Local.{pointing, lend-ref, back-ref, forks}
+use Rattle.walks.proofs.Local.{pointing, lend-ref, back-ref, forks}
 use Rattle.blocks.proofs.Ancestry.{is-true}
 use Rattle.replica.specs.Reply.{lentTo}
 use Rattle.run.specs.Running.{Runs, none}

@@ -5,7 +5,7 @@ use Rattle.walks.proofs.Walk.{sub, look-in, FmC, fmOf, WpFn-mono, owns, Is, mem
 use Rattle.walks.proofs.Data.{fits, word}
 use Rattle.walks.proofs.Calls.{end, held, made, so, of, asks, back-again, came, full, leave, ends}
 use Rattle.walks.proofs.Lent.{lying, Shr, lend-mut}
-use Rattle.run.proofs.Local.{pointing, lend-ref, back-ref}
+use Rattle.walks.proofs.Local.{pointing, lend-ref, back-ref}
 use Rattle.protocol.specs.Calls.{openingCall}
 use Rattle.replica.specs.Reply.{lentTo, replied}
 use Rattle.run.proofs.Moves.{made-by}

@@ -5,7 +5,7 @@ use Rattle.walks.proofs.Walk.{of-opd, and-then, no-more, assigns, returns, ente
 use Rattle.walks.proofs.Data.{fits, word, flag}
 use Rattle.walks.proofs.Calls.{end, held, made, out, so, of, asks, back-again, came, came-last, full, empty, leave, ends}
 use Rattle.walks.proofs.Lent.{lying, Shr, lend-mut}
-use Rattle.run.proofs.Local.{pointing, lend-ref, back-ref, came-held, forks}
+use Rattle.walks.proofs.Local.{pointing, lend-ref, back-ref, came-held, forks}
 use Rattle.protocol.specs.Calls.{recordCall}
 use Rattle.replica.specs.Reply.{lentTo, replied}
 use Rattle.run.proofs.Moves.{made-by, asked-yes, asked-no}

@@ -5,7 +5,7 @@ use Rattle.walks.proofs.Walk.{agg, whole, sub, look-in, FmC, fmOf, WpFn-mono, o
 use Rattle.walks.proofs.Data.{fits, word, flag}
 use Rattle.walks.proofs.Calls.{end, held, made, out, so, of, asks, back-again, came, full, leave, ends}
 use Rattle.walks.proofs.Lent.{lying, lend-mut, lend-shr, back-shr}
-use Rattle.run.proofs.Local.{pointing, lend-ref, back-ref}
+use Rattle.walks.proofs.Local.{pointing, lend-ref, back-ref}
 use lib.ListN.{take}
 use Rattle.counters.specs.declared.Counters.{Counters}
 use Rattle.protocol.specs.Calls.{recordCall, timerCall, proposeCall}

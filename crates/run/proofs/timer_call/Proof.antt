@@ -5,7 +5,7 @@ use Rattle.walks.proofs.Walk.{look-in, FmC, fmOf, WpFn-mono, owns, Is, mem, Boo
 use Rattle.walks.proofs.Data.{fits, word, flag}
 use Rattle.walks.proofs.Calls.{end, held, made, out, so, of, asks, back-again, came, came-last, full, empty, leave, ends}
 use Rattle.walks.proofs.Lent.{lying, lend-mut}
-use Rattle.run.proofs.Local.{pointing, lend-ref, back-ref, forks}
+use Rattle.walks.proofs.Local.{pointing, lend-ref, back-ref, forks}
 use Rattle.protocol.specs.Calls.{timerCall}
 use Rattle.replica.specs.Reply.{lentTo, replied}
 use Rattle.run.proofs.Moves.{made-by, asked-yes, asked-no}

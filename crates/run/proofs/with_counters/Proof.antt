@@ -5,7 +5,7 @@ use Rattle.walks.proofs.Walk.{look-in, FmC, fmOf, WpFn-mono, owns, mem, u8, sli
 use Rattle.walks.proofs.Data.{fits, word}
 use Rattle.walks.proofs.Calls.{end, held, out, so, of, asks, back-again, came, full, leave, ends}
 use Rattle.walks.proofs.Lent.{lying, lend-mut, lend-shr, back-shr}
-use Rattle.run.proofs.Local.{pointing, lend-local, back-local}
+use Rattle.walks.proofs.Local.{pointing, lend-local, back-local}
 use contract.Monad.{factI}
 use Rattle.blocks.specs.declared.Block.{Block}
 use Rattle.blocks.proofs.Types.{Blockᴿ}

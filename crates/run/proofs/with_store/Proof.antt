@@ -5,7 +5,7 @@ use Rattle.walks.proofs.Walk.{fmOf, WpFn-mono, owns, mem, u8, sliceVal, MutSlic
 use Rattle.walks.proofs.Data.{fits, word}
 use Rattle.walks.proofs.Calls.{end, held, out, so, of, asks, back-again, came, full, empty, leave, ends}
 use Rattle.walks.proofs.Lent.{lying, lend-mut}
-use Rattle.run.proofs.Local.{lend-array, back-array, repeated}
+use Rattle.walks.proofs.Local.{lend-array, back-array, repeated}
 use types.Part.{rep}
 use lib.ListN.{replicate, length-replicate}
 use Rattle.blocks.proofs.Types.{Blockᴿ, Blockᴰ}
