@@ -38,7 +38,7 @@ place-start x l n r =
     e ∙ ap (λ (s : List Block). n + placeOf x s) (sym (drop-of-length-le (take n l) all))
 
 -- what stands at that place is what is found
-place-found : (x : List ℕ) (l : List Block) → cond (ltb (placeOf x l) (length l)) (found (getD l (placeOf x l) genesis)) missing ≡ find x l
+pub place-found : (x : List ℕ) (l : List Block) → cond (ltb (placeOf x l) (length l)) (found (getD l (placeOf x l) genesis)) missing ≡ find x l
 unfolding placeOf find
 place-found x [] = rw (le-ltb 0 0 (omega arith)) refl
 place-found x (b ∷ l) = by-name (sameBytes (b .name) x) (place-found x l)

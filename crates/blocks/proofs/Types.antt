@@ -12,6 +12,9 @@ use Rattle.settings.proofs.Height.Laws as Height′
 use Rattle.blocks.specs.declared.Block.{Block}
 use Rattle.blocks.proofs.Block as Blockᵐ
 use Rattle.blocks.proofs.Block.Laws as Block′
+use Rattle.blocks.specs.declared.Verdicts.{Verdicts}
+use Rattle.blocks.proofs.Verdicts as Verdictsᵐ
+use Rattle.blocks.proofs.Verdicts.Laws as Verdicts′
 use Rattle.blocks.specs.declared.Found.{Found}
 use Rattle.blocks.proofs.Found as Foundᵐ
 use Rattle.blocks.proofs.Found.Laws as Found′
@@ -63,6 +66,21 @@ Block-parent x is = field-bytes 32 (x .parent) (LL.owed Blockᵐ.the-type Block�
 
 pub Block-height : (x : Block) → At Blockᴰ x → At Heightᴰ (x .height)
 Block-height x is = again Heightᴰ (x .height) _ (LL.owed Blockᵐ.the-type Block′.the-laws x _ is .1 .1 .0)
+
+abbrev pub Verdictsᴿ : RattleType
+Verdictsᴿ = Verdictsᵐ.the-row
+
+abbrev pub Verdictsᵀ : Ty
+Verdictsᵀ = Verdicts′.mir
+
+abbrev pub Verdictsᴰ : Data Verdictsᴿ
+Verdictsᴰ = struct Verdictsᵐ.the-type Verdicts′.the-laws Verdicts′.the-plain Verdicts′.lowers
+
+pub Verdicts-low : (x : Verdicts) → At Verdictsᴰ x → At word (x .low)
+Verdicts-low x is = LL.owed Verdictsᵐ.the-type Verdicts′.the-laws x _ is .0
+
+pub Verdicts-high : (x : Verdicts) → At Verdictsᴰ x → At word (x .high)
+Verdicts-high x is = LL.owed Verdictsᵐ.the-type Verdicts′.the-laws x _ is .1 .0
 
 abbrev pub Foundᴿ : RattleType
 Foundᴿ = Foundᵐ.the-row

@@ -1,15 +1,18 @@
--- The place of an entry, and one step of the walk from parent to parent and of the drop. Assumes nothing.
+-- The place of an entry, one step of the walk from parent to parent and of the drop, and the verdicts of a drop. Assumes nothing.
+use mathlib.Core.Path.{_≡_}
 use Prim.Native.Nat.{ℕ, suc, _+_, _-_, _^_}
-use mathlib.Core.Bool.{Bool, true, false, cond, _&&_, _||_}
+use mathlib.Core.Bool.{Bool, false, cond, _&&_}
 use mathlib.Core.List.{List, [], _∷_}
-use lib.Dec.{eqb}
-use lib.ListN.{drop}
+use lib.Dec.{ltb}
+use lib.ListN.{drop, getD}
 use Rattle.codec.specs.Names.{sameBytes}
-use Rattle.blocks.specs.Store.{below, descends, only}
+use Rattle.certificate.specs.Safe.{signs}
+use Rattle.blocks.specs.Store.{genesis, below, descends, only}
 use Rattle.blocks.specs.declared.Block.{Block}
 use Rattle.blocks.specs.declared.Found.{Found}
 use Rattle.blocks.specs.declared.Onward.{Onward}
 use Rattle.blocks.specs.declared.Spot.{Spot}
+use Rattle.blocks.specs.declared.Verdicts.{Verdicts}
 
 -- the place of the first entry of a name, or the length where there is none
 unfoldable pub placeOf : List ℕ → List Block → ℕ
@@ -24,13 +27,32 @@ onwardOf tip b c = record {
   block = c .block;
 }
 
--- the same height and the same parent: what lies below two such blocks is the same
-unfoldable pub alike : Block → Block → Bool
-alike a b = eqb (a .height .0) (b .height .0) && sameBytes (a .parent) (b .parent)
+-- no entry was judged yet
+abbrev pub noVerdicts : Verdicts
+noVerdicts = record { low = 0; high = 0 }
 
--- the step s from b, where good says whether the block last descends: where b is like last, or it would go on at a block like last, it ends here, as last does
-unfoldable pub shortened : Block → Bool → Block → Onward → Onward
-shortened last good b s = cond (alike b last || (s .goes && alike (s .block) last)) (record { goes = false; ends = good; block = s .block }) s
+-- the verdict of the entry at place j: a bit of the first or of the second word, and false from 128 on
+unfoldable pub verdictOf : Verdicts → ℕ → Bool
+verdictOf v j = cond (ltb j 64) (signs (v .low) j) (cond (ltb j 128) (signs (v .high) (j - 64)) false)
+
+-- v, to which the verdict of the entry at place i is added, if that is one of the first 128
+unfoldable pub notedOf : Verdicts → ℕ → Bool → Verdicts
+notedOf v i good =
+    cond good
+    (cond (ltb i 64) (record { low = v .low + 2 ^ i; high = v .high }) (cond (ltb i 128) (record { low = v .low; high = v .high + 2 ^ (i - 64) }) v))
+    v
+
+-- place j is one of the first i, and one of the first 128
+unfoldable pub remembered : ℕ → ℕ → Bool
+remembered i j = ltb j (cond (ltb i 128) i 128)
+
+-- v has the verdicts of the first i entries, as far as there is room for them, and no other
+abbrev pub Noted : Block → List Block → ℕ → Verdicts → Type 0
+Noted tip store i v = (j : ℕ) → verdictOf v j ≡ (remembered i j && descends tip store (getD store j genesis))
+
+-- the step s, which would go on at the entry at place at: where v has the verdict of that entry, it ends here, as that entry does
+unfoldable pub shortened : ℕ → ℕ → Verdicts → Onward → Onward
+shortened at i v s = cond (s .goes && remembered i at) (record { goes = false; ends = verdictOf v at; block = s .block }) s
 
 -- the kept entries from place i on
 unfoldable pub keptFrom : Block → List Block → ℕ → List Block

@@ -1,9 +1,9 @@
 // Blocks and the store of blocks, lent as a slice of structs: search, fill, the walk from parent to parent, releases, drop.
 // Promises: each function does what its definition in specs/Store.antt says of the first `count` entries, on any content; only `release` asks
 // something, that the block descends and that its records have room. proofs/{Filled, Ancestry, Linked, Kept}.antt have the laws.
-// Rests on `codec`, `wire` and the shared modules of `walks`. Every decision is a function by value; the others move whole blocks.
+// Rests on `codec`, `wire`, the bits of `certificate` and the shared modules of `walks`. Every decision is a function by value; the others move whole blocks.
 ghost use mathlib.Core.Path.{_≡_};
-ghost use mathlib.Core.Bool.{true, cond};
+ghost use mathlib.Core.Bool.{true, false, cond};
 ghost use Prim.Native.Nat.{_+_, _*_, _^_, _<_, _≤_};
 ghost use lib.Dec.{ltb};
 ghost use lib.ListN.{length, set, getD, take};
@@ -11,8 +11,9 @@ ghost use lib.Seq.{sets};
 ghost use Rattle.codec.specs.Bytes.{patch};
 ghost use Rattle.codec.specs.Names.{sameBytes};
 ghost use Rattle.wire.specs.Encode.{releaseBytes};
-ghost use Rattle.blocks.specs.Steps.{onwardOf, alike, shortened, keptFrom, spotOf, placeOf};
+ghost use Rattle.blocks.specs.Steps.{onwardOf, noVerdicts, verdictOf, notedOf, shortened, Noted, keptFrom, spotOf, placeOf};
 ghost use Rattle.blocks.specs.Store.{genesis, found, missing, find, held, descends, ancestry, releases, kept, dropped};
+use certificate::safe::signs;
 use settings::Height;
 use settings::View;
 use wire::Release;
@@ -201,53 +202,84 @@ pub fn descends(store: &[Block], count: usize, tip: Block, b: Block) -> bool
     }
 }
 
-// The same height and the same parent. Nothing else of a block bears on whether it descends.
-fn alike(a: Block, b: Block) -> bool
-    ensures { λ r. ⌜ r ≡ alike a b ⌝ }
+// Which of the entries judged so far descend, of the first 128: a bit for each.
+struct Verdicts {
+    low: u64,
+    high: u64,
+}
+
+fn no_verdicts() -> Verdicts
+    ensures { λ r. ⌜ r ≡ noVerdicts ⌝ }
 {
-    let p = a.parent;
-    let q = b.parent;
-    if a.height.0 == b.height.0 {
-        return codec::name::same(p, q);
+    Verdicts { low: 0, high: 0 }
+}
+
+fn verdict(v: Verdicts, at: usize) -> bool
+    ensures { λ r. ⌜ r ≡ verdictOf v at ⌝ }
+{
+    if at < 64 {
+        return signs(v.low, at as u64);
+    }
+    if at < 128 {
+        return signs(v.high, (at - 64) as u64);
     }
     false
 }
 
-// The step from b, where `good` says whether the block `last` descends: where b is like `last`, or it would go on at a block like `last`, it ends as
-// `last` does.
-fn step_known(tip: Block, b: Block, c: Found, last: Block, good: bool) -> Onward
-    ensures { λ r. ⌜ r ≡ shortened last good b (onwardOf tip b c) ⌝ }
+// Entry i was judged.
+fn noted(v: Verdicts, i: usize, good: bool) -> Verdicts
+    requires { ⌜ verdictOf v i ≡ false ⌝ }
+    ensures { λ r. ⌜ r ≡ notedOf v i good ⌝ }
+{
+    if !good {
+        return v;
+    }
+    if i < 64 {
+        return Verdicts {
+            low: v.low + (1u64 << i),
+            high: v.high,
+        };
+    }
+    if i < 128 {
+        return Verdicts {
+            low: v.low,
+            high: v.high + (1u64 << (i - 64)),
+        };
+    }
+    v
+}
+
+// The step from b, where v has the verdicts of the entries before place i, and b's parent stands at place `at`: where it would go on at an entry with
+// a verdict, it ends as that one does.
+fn step_judged(tip: Block, b: Block, c: Found, at: usize, i: usize, v: Verdicts) -> Onward
+    ensures { λ r. ⌜ r ≡ shortened at i v (onwardOf tip b c) ⌝ }
 {
     let s = step(tip, b, c);
     let d = s.block;
-    if alike(b, last) {
-        return Onward {
-            goes: false,
-            ends: good,
-            block: d,
-        };
-    }
     if !s.goes {
         return s;
     }
-    if alike(d, last) {
+    if at < lesser(i, 128) {
         return Onward {
             goes: false,
-            ends: good,
+            ends: verdict(v, at),
             block: d,
         };
     }
     s
 }
 
-// Whether b descends, as `descends` says it, in one scan of the store where b or its parent is `last` or a sibling of `last`.
-fn judged(store: &[Block], count: usize, tip: Block, b: Block, last: Block, good: bool) -> bool
-    requires { ⌜ good ≡ descends tip (take count (now store)) last ⌝ }
+// Whether b descends, as `descends` says it, in one scan of the store where b's parent was judged before.
+fn judged(store: &[Block], count: usize, tip: Block, b: Block, i: usize, v: Verdicts) -> bool
+    requires { ⌜ Noted tip (take count (now store)) i v ⌝ }
     ensures { λ r. ⌜ r ≡ descends tip (take count (now (store .entry))) b ⌝ }
 {
     let p = b.parent;
-    let c = held(store, count, tip, p);
-    let s = step_known(tip, b, c, last, good);
+    let n = lesser(count, store.len());
+    let at = scan(store, n, p);
+    let f = found_at(store, at, n);
+    let c = pick(tip, p, f);
+    let s = step_judged(tip, b, c, at, i, v);
     if s.goes {
         let d = s.block;
         descends(store, count, tip, d)
@@ -334,7 +366,7 @@ fn place_of(keep: bool, at: usize) -> Spot
 }
 
 // The `left` entries from place i on. Every one is judged before any is stored, so that each walk goes over the store as it was; and what lies
-// behind an entry is stored before it, at places behind its own. `last` is the entry judged just before, and `good` its verdict.
+// behind an entry is stored before it, at places behind its own. v has the verdicts of the entries before place i.
 fn sweep(
     store: &mut [Block],
     count: usize,
@@ -342,18 +374,18 @@ fn sweep(
     i: usize,
     left: usize,
     at: usize,
-    last: Block,
-    good: bool,
+    v: Verdicts,
 ) -> usize
-    requires { ⌜ (i + left ≡ length (take count (now store))) × ((at ≤ i) × (good ≡ descends tip (take count (now store)) last)) ⌝ }
+    requires { ⌜ (i + left ≡ length (take count (now store))) × ((at ≤ i) × Noted tip (take count (now store)) i v) ⌝ }
     ensures { λ r. ⌜ (r ≡ at + length (keptFrom tip (take count (now (store .entry))) i))
         × (now (store .exit) ≡ sets (now (store .entry)) at (keptFrom tip (take count (now (store .entry))) i)) ⌝ }
 {
     if 0 < left {
         let b = entry(store, i);
-        let d = judged(store, count, tip, b, last, good);
+        let d = judged(store, count, tip, b, i, v);
         let s = place_of(d, at);
-        let r = sweep(store, count, tip, i + 1, left - 1, s.next, b, d);
+        let w = noted(v, i, d);
+        let r = sweep(store, count, tip, i + 1, left - 1, s.next, w);
         fill(store, s.at, b);
         r
     } else {
@@ -361,11 +393,11 @@ fn sweep(
     }
 }
 
-// The new count. Before the first entry stands genesis, which does not descend: its height is 0.
+// The new count.
 pub fn drop_others(store: &mut [Block], count: usize, tip: Block) -> usize
     ensures { λ r. ⌜ (r ≡ length (kept tip (take count (now (store .entry))))) × (now (store .exit) ≡ dropped tip count (now (store .entry))) ⌝ }
 {
     let n = lesser(count, store.len());
-    let none = nothing();
-    sweep(store, count, tip, 0, n, 0, none.block, none.is)
+    let none = no_verdicts();
+    sweep(store, count, tip, 0, n, 0, none)
 }
