@@ -2,15 +2,15 @@
 use mathlib.Core.Path.{_≡_, refl, sym, _∙_, ap, subst}
 use Prim.Native.Nat.{ℕ, suc, _+_, _-_, _^_, _<_, _≤_}
 use native.Mathlib.Omega.{arith}
-use mathlib.Core.Bool.{Bool, true, false, cond, not, _&&_, _||_}
+use mathlib.Core.Bool.{Bool, true, false, cond, not, _&&_}
 use mathlib.Core.List.{List}
 use lib.Dec.{eqb, ltb}
 use lib.ListN.{length, take, getD}
 use lib.Pow.{pow-pos}
-use borrow.Author.Tests.{eqb-true, eqb-false, eq-eqb, ne-eqb, ltb-true, ltb-false, lt-ltb, le-ltb}
+use borrow.Author.Tests.{eqb-true, eqb-false, ltb-true, ltb-false, lt-ltb, le-ltb}
 use Rattle.codec.specs.Names.{sameBytes}
 use Rattle.certificate.specs.Safe.{signs}
-use Rattle.certificate.proofs.Sets.{joined-signs, signs-beyond}
+use Rattle.certificate.proofs.Sets.{signs-joined, signs-other, signs-beyond}
 use Rattle.blocks.specs.Store.{genesis, found, missing, find, held, below, descends}
 use Rattle.blocks.specs.Steps.{onwardOf, placeOf, noVerdicts, verdictOf, notedOf, remembered, Noted, shortened}
 use Rattle.blocks.specs.declared.Block.{Block}
@@ -54,12 +54,6 @@ remembered-next i j d = by-tests (ltb j 128) refl (ltb j i) refl
     by-tests true f false e = let h : i ≤ j = ltb-false j i e in remembered-not (i + 1) j (omega (arith, h, d)) ∙ sym (remembered-not i j h)
 
 -- ---- one verdict more
-signs-joined : (g i : ℕ) → signs g i ≡ false → signs (g + 2 ^ i) i ≡ true
-signs-joined g i e = joined-signs g i i e ∙ rw (eq-eqb i i refl)
-
-signs-other : (g i j : ℕ) → signs g i ≡ false → (j ≡ i → ⊥) → signs (g + 2 ^ i) j ≡ signs g j
-signs-other g i j e d = joined-signs g i j e ∙ rw (ne-eqb i j (λ f. d (sym f)))
-
 no-bit : (k : ℕ) → signs 0 k ≡ false
 no-bit k = signs-beyond 0 k (pow-pos k)
 

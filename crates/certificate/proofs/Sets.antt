@@ -7,7 +7,7 @@ use native.Mathlib.Omega.{arith}
 use lib.Count.{onesIn}
 use lib.Pow.{shr-lt}
 use lib.Dec.{eqb, ltb, eqb·zero-suc, eqb·suc-zero, eqb·suc-suc}
-use borrow.Author.Tests.{eqb-true, eqb-false, eq-eqb, lt-ltb, ltb-true}
+use borrow.Author.Tests.{eqb-true, eqb-false, eq-eqb, ne-eqb, lt-ltb, ltb-true}
 use Rattle.certificate.specs.Good.{signerCount}
 use Rattle.certificate.specs.Safe.{signs, joins}
 use Rattle.certificate.proofs.Signers.{joined-lt, signs-suc}
@@ -35,6 +35,13 @@ joined-signs g (suc i) (suc j) e =
     let p = pow-suc 2 i in
     let q : (g + 2 ^ suc i) / 2 ≡ g / 2 + 2 ^ i = omega arith in
     rw (signs-suc (g + 2 ^ suc i) j, q, joined-signs (g / 2) i j (sym (signs-suc g i) ∙ e), signs-suc g j, eqb·suc-suc i j)
+
+-- the one that joined, and any other
+pub signs-joined : (g i : ℕ) → signs g i ≡ false → signs (g + 2 ^ i) i ≡ true
+signs-joined g i e = joined-signs g i i e ∙ rw (eq-eqb i i refl)
+
+pub signs-other : (g i j : ℕ) → signs g i ≡ false → (j ≡ i → ⊥) → signs (g + 2 ^ i) j ≡ signs g j
+signs-other g i j e d = joined-signs g i j e ∙ rw (ne-eqb i j (λ f. d (sym f)))
 
 -- and one signer more
 onesIn-joined : (k g i : ℕ) → signs g i ≡ false → i < k → onesIn k (g + 2 ^ i) ≡ suc (onesIn k g)

@@ -1,18 +1,17 @@
--- How many numbers below n pass a test; the bits of a set of replicas, what one more of them changes, and their count. Assumes nothing.
+-- How many numbers below n pass a test; the bits of a set of replicas, and their count. Assumes nothing.
 use mathlib.Core.Path.{_≡_, refl, sym, ap, ap₂, _∙_}
 use mathlib.Core.Bool.{Bool, true, false, cond, true≢false}
 use Prim.Native.Nat.{ℕ, zero, suc, _+_, _-_, _/_, _%_, _^_, _≤_, _<_}
 use native.Mathlib.Nat.{add-zero, add-suc, lt-of-lt-of-le, mod-lt, div-eq-of-lt}
 use native.Mathlib.Numerals.{add-one}
 use native.Mathlib.Omega.{arith}
-use borrow.Author.Tests.{eqb-true, eqb-false, eq-eqb, ne-eqb}
+use borrow.Author.Tests.{eqb-true, eqb-false}
 use lib.Count.{onesIn}
 use lib.Dec.{eqb}
 use lib.Pow.{pow-pos, pow-mono, field, mod-mod-pow}
 use Rattle.certificate.specs.Good.{signerCount}
 use Rattle.certificate.specs.Safe.{signs}
 use Rattle.certificate.proofs.Signers.{signs-suc}
-use Rattle.certificate.proofs.Sets.{joined-signs}
 
 -- ---- how many numbers below n pass a test
 unfoldable pub counted : (ℕ → Bool) → ℕ → ℕ
@@ -102,13 +101,6 @@ signs-low g n i l =
     ap (λ (k : ℕ). eqb (g % 2 ^ k / 2 ^ i % 2) 1) e
     ∙ ap (λ (x : ℕ). eqb (x % 2) 1) (field g (suc (n - suc i)) i ∙ ap (λ (k : ℕ). g / 2 ^ i % 2 ^ k) (sym (add-one (n - suc i))))
     ∙ ap (λ (x : ℕ). eqb x 1) (mod-mod-pow (g / 2 ^ i) (n - suc i) 1)
-
--- ---- one replica more
-pub signs-joined : (g i : ℕ) → signs g i ≡ false → signs (g + 2 ^ i) i ≡ true
-signs-joined g i e = joined-signs g i i e ∙ rw (eq-eqb i i refl)
-
-pub signs-other : (g i j : ℕ) → signs g i ≡ false → (j ≡ i → ⊥) → signs (g + 2 ^ i) j ≡ signs g j
-signs-other g i j e d = joined-signs g i j e ∙ rw (ne-eqb i j (λ f. d (sym f)))
 
 -- ---- how many replicas are in a set
 ones-counted : (k g : ℕ) → onesIn k g ≡ counted (signs g) k

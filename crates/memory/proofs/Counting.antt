@@ -13,10 +13,11 @@ use Rattle.codec.specs.Names.{nameLength, sameBytes}
 use Rattle.codec.proofs.Order.{same-refl}
 use Rattle.certificate.specs.Good.{signerCount}
 use Rattle.certificate.specs.Safe.{signs}
+use Rattle.certificate.proofs.Sets.{signs-joined, signs-other}
 use Rattle.memory.specs.Layout.{rowSize}
 use Rattle.memory.specs.Kept.{mask, has, keptCount, kept, keep, cleared, backs, tallied, tally}
 use Rattle.memory.proofs.Rows.{tally-signers}
-use Rattle.memory.proofs.Bits.{counted, counted-le, counted-most, counted-one, signs-above, signs-joined, signs-other, count-set, count-low}
+use Rattle.memory.proofs.Bits.{counted, counted-le, counted-most, counted-one, signs-above, count-set, count-low}
 use Rattle.memory.proofs.Keeping.{has-keep, has-keep-other, kept-keep, kept-keep-other}
 use Rattle.memory.proofs.Clearing.{has-cleared, has-same, kept-same}
 

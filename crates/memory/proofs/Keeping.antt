@@ -17,7 +17,7 @@ use Rattle.certificate.proofs.Signers.{joined-lt}
 use Rattle.memory.specs.Layout.{rowSize}
 use Rattle.memory.specs.Kept.{entryAt, mask, has, kept, keep}
 use Rattle.memory.proofs.Places.{entry-inside}
-use Rattle.memory.proofs.Bits.{signs-joined, signs-other}
+use Rattle.certificate.proofs.Sets.{signs-joined, signs-other}
 use Rattle.memory.proofs.Apart.{Apart, part-off}
 
 -- a mask is a word
