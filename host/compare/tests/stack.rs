@@ -9,7 +9,7 @@ use oracle::lent::Rooms;
 use oracle::{wire, Block, Faults, Height, View, Vote};
 use streams::Call;
 
-/// What a call may take. Measured: 221,784 bytes where block 1 of a chain is released and a block that stands apart came before the chain's last.
+/// What a call may take. Measured: 230,152 bytes where block 1 of a chain is released whose last two stand the wrong way round.
 const BOUND: usize = 240 * 1024;
 /// What is painted, and the thread's stack.
 const PAINTED: usize = 512 * 1024;
@@ -91,8 +91,7 @@ fn chain(blocks: u64) -> Vec<u64> {
     (0..blocks).collect()
 }
 
-/// The same, but the last but one stands on genesis: a drop that remembers the entry just before walks the whole chain down
-/// for the last one, after all other entries.
+/// The same, but the last but one stands on genesis.
 fn chain_and_one_apart(blocks: u64) -> Vec<u64> {
     (0..blocks - 2).chain([0, blocks - 2]).collect()
 }
@@ -144,6 +143,14 @@ fn with_last_vote(mut rooms: Rooms, height: u64) -> Rooms {
     rooms
 }
 
+/// The last two of so many entries change places.
+fn last_two_swapped(mut rooms: Rooms, entries: usize) -> Rooms {
+    const ENTRY: usize = 72;
+    let (front, last) = rooms.store.split_at_mut(ENTRY * (entries - 1));
+    front[ENTRY * (entries - 2)..].swap_with_slice(&mut last[..ENTRY]);
+    rooms
+}
+
 /// Runs of both kinds.
 #[test]
 fn stack_of_runs() {
@@ -169,16 +176,16 @@ fn depth_of_release(rooms: Rooms, step: Step, height: u64) -> [usize; 4] {
 
 /// In a full store the lowest block is released, or the highest of the chain, or one between. For propose there is a
 /// place left.
-fn depths_of_releases(title: &str, held: fn(u64) -> Vec<u64>, released: &[u64]) {
+fn depths_of_releases(title: &str, held: fn(u64) -> Vec<u64>, lent: fn(Rooms, usize) -> Rooms, released: &[u64]) {
     let mut deepest = [0; 4];
     for &number in released {
         let timer = step(AnyCall::Call(Call::Timer(2)));
         let propose = step(AnyCall::Call(Call::Propose([9; 32])));
         let below = number.min(127);
         for (rooms, step) in [
-            (before_release(&held(128), number), vote(31, number)),
-            (with_last_vote(before_release(&held(128), number), number), timer),
-            (with_last_vote(before_release(&held(127), below), below), propose),
+            (lent(before_release(&held(128), number), 128), vote(31, number)),
+            (lent(with_last_vote(before_release(&held(128), number), number), 128), timer),
+            (lent(with_last_vote(before_release(&held(127), below), below), 127), propose),
         ] {
             deepest = higher(deepest, depth_of_release(rooms, step, below.min(125)));
         }
@@ -190,13 +197,19 @@ fn depths_of_releases(title: &str, held: fn(u64) -> Vec<u64>, released: &[u64]) 
 
 #[test]
 fn stack_of_a_release_from_a_full_store() {
-    depths_of_releases("one chain", chain, &[1, 64, 126, 127, 128]);
+    depths_of_releases("one chain", chain, |rooms, _| rooms, &[1, 64, 126, 127, 128]);
 }
 
-/// The deepest inputs known.
 #[test]
 fn stack_of_a_release_with_a_block_apart() {
-    depths_of_releases("one chain and a block apart", chain_and_one_apart, &[1, 64]);
+    depths_of_releases("one chain and a block apart", chain_and_one_apart, |rooms, _| rooms, &[1, 64]);
+}
+
+/// The deepest inputs known, which no run leads to. A drop has a verdict for an entry whose parent stands before it; here the
+/// last but one is walked all the way down, after all others.
+#[test]
+fn stack_of_a_drop_out_of_order() {
+    depths_of_releases("one chain, its last two the wrong way round", chain, last_two_swapped, &[1, 64]);
 }
 
 /// Rule D's longest search: of 24 decided names only the very last is held, a chain of 128 blocks above the tip.
