@@ -96,7 +96,7 @@ impl Panels {
         out + &text((left + PANEL.0 / 2.0, bottom + 35.0), "middle", GREY, 12, self.axis)
     }
 
-    /// Library and oracle of one kind, each named at its line's end.
+    /// Library and oracle of one kind, the one named above both lines, the other below their ends.
     fn curves(&self, scale: &Scale, left: f64, kind: usize) -> String {
         let mut out = String::new();
         for (side, (name, colour)) in SIDES.iter().enumerate() {
@@ -109,13 +109,22 @@ impl Panels {
             for ring in self.marks.get(kind).into_iter().flatten().map(place) {
                 out += &circle(ring, 5.0, "none", colour);
             }
-            let (last, highest) = (self.lines[kind].last(), dots.iter().map(|dot| dot.1).fold(f64::MAX, f64::min));
-            if let Some((_, times)) = last {
+            if let Some((_, times)) = self.lines[kind].last() {
                 let label = format!("{name} {:.2}{}", times[side] / 1000.0, ratio(side, times));
-                out += &text((left + PANEL.0, highest - 9.0), "end", colour, 12, &label);
+                let y = self.label_at(scale, kind, side);
+                out += &text((left + PANEL.0, y), "end", colour, 12, &label);
             }
         }
         out
+    }
+
+    /// Above all dots for the library; for the oracle below the last two of both lines, over which its label stands.
+    fn label_at(&self, scale: &Scale, kind: usize, side: usize) -> f64 {
+        let dots = self.lines[kind].iter().rev().map(|(_, times)| times.map(|time| scale.y(self.top, time)));
+        match side {
+            0 => dots.flatten().fold(f64::MAX, f64::min) - 9.0,
+            _ => dots.take(2).flatten().fold(0.0, f64::max) + 20.0,
+        }
     }
 }
 
