@@ -162,6 +162,7 @@ pub fn next_decided(mem: &[u8], q: Quest, after: Choice) -> Choice
     choose(mem, commit_row(q.view), q.n, q.commits, after, voted)
 }
 
+// A replica has one entry in a row, so those that don't back the name are for others.
 pub fn weigh(mem: &[u8], row: usize, n: usize, quorum: u64, name: [u8; 32]) -> Standing
     requires { ⌜ (memoryLength ≤ length (now mem)) × ((row + rowSize 32 ≤ memoryLength) × (n ≤ largest)) ⌝ }
     ensures { λ r. ⌜ r ≡ standing (now (mem .entry)) row n quorum name ⌝ }
@@ -189,6 +190,7 @@ fn first_name(mem: &[u8], row: usize, n: usize) -> [u8; 32]
     [0u8; 32]
 }
 
+// The name that is weighed: the first kept vote, or the first kept commit where the votes are too few. Any other would do, and mostly be in vain.
 fn likely(mem: &[u8], q: Quest) -> [u8; 32]
     requires { ⌜ (memoryLength ≤ length (now mem)) × (q .n ≤ largest) ⌝ }
     ensures { λ r. ⌜ r ≡ likely (now (mem .entry)) q ⌝ }
