@@ -6,20 +6,25 @@ use mathlib.Core.Path.{_≡_, refl, sym, ap, _∙_}
 use mathlib.Core.Bool.{Bool, true, false, cond}
 use mathlib.Core.Logic.{inl, inr}
 use mathlib.Core.List.{List, _++_}
-use borrow.Author.Tests.{ne-eqb, lt-ltb, le-ltb, le-leb, lt-leb}
-use lib.Dec.{ltb, leb}
+use borrow.Author.Tests.{ne-eqb, eqb-true, eqb-false, lt-ltb, le-ltb, le-leb, lt-leb}
+use lib.Dec.{eqb, ltb, leb}
 use lib.ListN.{length, take, drop, length-append, take-append-drop}
 use lib.Seq.{length-take-le}
 use Rattle.settings.specs.Quorum.{largest, replicas}
 use Rattle.codec.specs.Bytes.{IsBytes, part, patch, leNat, leBytes}
-use Rattle.codec.proofs.Laws.{length-part, length-patch, part-lent, part-same, part-before, part-behind, patch-part, patch-patch}
+use Rattle.codec.proofs.Laws.{length-part, length-patch, part-lent, part-drop, part-same, part-before, part-behind, patch-part, patch-patch}
 use Rattle.codec.proofs.Le.{length-leBytes, leBytes-leNat, leNat-leBytes}
 use Rattle.wire.specs.Fields.{kindOf, senderOf, viewOf, nameOf, countOf}
-use Rattle.wire.specs.Content.{Certificate, certificateOf, byBlock, byTimeouts}
+use Rattle.wire.specs.declared.BlockCertificate.{BlockCertificate}
+use Rattle.wire.specs.declared.TimeoutCertificate.{TimeoutCertificate}
+use Rattle.wire.specs.declared.Progress.{Progress}
+use Rattle.wire.specs.declared.Progress.the-variants.{Block, Timeouts}
+use Rattle.wire.specs.Content.{Certificate, certificateOf, byBlock, byTimeouts, progressAt, progressMeans, Within}
+use Rattle.wire.proofs.Certificates.{progress-means, Stands, within, block-kind}
 use Rattle.wire.specs.Encode.{voteBytes}
 use Rattle.wire.proofs.Rows.{bytes-part}
 use Rattle.certificate.specs.Safe.{safeCertificate}
-use Rattle.blocks.specs.declared.Block.{Block}
+use Rattle.blocks.specs.declared.Block.{Block as Held}
 use Rattle.memory.specs.Layout.{entryRoom, settingsOf, ownOf, withEntry}
 use Rattle.memory.specs.Window.{entered}
 use Rattle.memory.proofs.Apart.{part-inner}
@@ -36,19 +41,15 @@ use Rattle.protocol.proofs.Written.{Grows}
 use Rattle.act.specs.declared.Draft.{Draft}
 use Rattle.act.specs.Draft.{workOf, Left, Does, Ready}
 use Rattle.act.specs.Progress.{HasForm, IsProgress, certificateRoom, advance, InOutput}
-use Rattle.act.proofs.Steps.{emptyStore, patch-inner, sent-at, sent-out, drop-patch, same-left, Longer, does-then, does-same, does-over, ready-next, ready-facts, written-at}
+use Rattle.act.proofs.Steps.{emptyStore, patch-inner, sent-at, sent-out, drop-patch, same-left, Longer, does-then, does-same, does-stay, does-over, ready-next, ready-facts, written-at}
 
 -- ---- what the form says
-pub form-asks : (n : ℕ) (r : List ℕ) → HasForm n r → (24 ≤ length r) × ((kindOf r ≡ 3 → 56 ≤ length r) × ((kindOf r ≡ 3 → ⊥) → 24 + 112 * countOf r ≤ length r))
-form-asks n r (inl (k, l)) = (omega arith, (λ e. omega arith, λ e. absurd (e k)))
-form-asks n r (inr (k, c, l)) = (omega arith, (λ e. omega arith, λ e. omega arith))
+pub form-stands : (n : ℕ) (r : List ℕ) → HasForm n r → Stands r 0
+form-stands n r (inl (k, l)) = record { head = omega arith; block = λ _. omega arith; timeouts = λ e. absurd (e k) }
+form-stands n r (inr (k, c, l)) = record { head = omega arith; block = λ e. absurd (omega (arith, k, e)); timeouts = λ _. omega arith }
 
 pub progress-form : (n : ℕ) (r : List ℕ) → IsBytes r → IsProgress n r → ProgressForm n r
 progress-form n r b p = record { bytes = b; form = p .form; view = p .view }
-
-block-length : (n : ℕ) (r : List ℕ) → HasForm n r → kindOf r ≡ 3 → length r ≡ 56
-block-length n r (inl (k, l)) e = l
-block-length n r (inr (k, c, l)) e = absurd (omega (arith, k, e))
 
 -- a block certificate and its commit, or a timeout certificate: no more than the room of an entry certificate
 pub progress-room : (n : ℕ) (r : List ℕ) → n ≤ largest → IsProgress n r → certificateRoom r ≤ entryRoom
@@ -71,6 +72,26 @@ pub commit-longer : (v : ℕ) (x : List ℕ) (W : Work) → Longer W (sendCommit
 unfolding sendCommit keepCommit
 commit-longer v x W = omega (arith, length-append (W .out) (voteBytes 2 (own W) v x))
 
+pub longer-if : (W A B : Work) (t : Bool) → Longer W A → Longer W B → Longer W (cond t A B)
+longer-if W A B true a b = a
+longer-if W A B false a b = b
+
+commit-after-longer : (k : Certificate) (W : Work) → Longer W (commitAfter k W)
+commit-after-longer (byBlock v x g) W = longer-if W _ _ (ltb (timed W) v) (commit-longer v x W) (omega arith)
+commit-after-longer (byTimeouts v ts) W = omega arith
+
+-- ---- a block certificate's commit, if its view isn't timed
+module _ (d : Draft) (m o : List ℕ) (k : BlockCertificate) where
+  pub commits : {x : List ℕ} {d₁ : Draft} {m₁ o₁ : List ℕ} → d .counters .timed .0 < k .view .0 → x ≡ part o (k .place + 16) 32 → Does (sendCommit (k .view .0) x) d m o d₁ m₁ o₁
+      → Does (commitAfter (progressMeans o (Block k))) d m o d₁ m₁ o₁
+  unfolding progressMeans
+  commits {x} h e c =
+      does-same (sendCommit (k .view .0) x) (commitAfter (progressMeans o (Block k))) (λ s. rw (lt-ltb _ _ h, part-drop o (k .place) 16 32, ← e)) c
+
+  pub commits-not : k .view .0 ≤ d .counters .timed .0 → d .at ≤ length o → Does (commitAfter (progressMeans o (Block k))) d m o d m o
+  unfolding progressMeans
+  commits-not h l = does-stay (commitAfter (progressMeans o (Block k))) d m o l (λ s. rw (le-ltb _ _ h))
+
 -- ---- the record in the output region
 module _ (d : Draft) (m o : List ℕ) (size : ℕ) (i : InOutput d m o size) where
   abbrev rec : List ℕ
@@ -80,7 +101,7 @@ module _ (d : Draft) (m o : List ℕ) (size : ℕ) (i : InOutput d m o size) whe
   length-rec = length-part o (d .at) size (i .whole)
 
   pub rec-long : 24 ≤ size
-  rec-long = omega (arith, form-asks _ rec (i .progress .form) .0, length-rec)
+  rec-long = omega (arith, form-stands _ rec (i .progress .form) .head, length-rec)
 
   -- a field of it
   pub field-at : (a k : ℕ) → a + k ≤ size → part rec a k ≡ part o (d .at + a) k
@@ -95,7 +116,7 @@ module _ (d : Draft) (m o : List ℕ) (size : ℕ) (i : InOutput d m o size) whe
         let lent : take (d .at + size - d .at) (drop (d .at) o) ≡ rec = part-lent o (d .at) size in
         let h : d .at + length rec ≤ length o = omega (arith, length-rec, i .whole) in
         let p′ : c ≡ adopting (d .counters) (safeCertificate (settingsOf m) (certificateOf rec)) = p ∙ rw lent in
-        let next : (s : List Block) → v + 1 ≡ suc (viewOfProgress (certificateOf rec)) =
+        let next : (s : List Held) → v + 1 ≡ suc (viewOfProgress (certificateOf rec)) =
         λ s. add-one v ∙ ap suc (q ∙ ap leNat (sym (field-at 8 8 (omega (arith, rec-long)))) ∙ sym (form-view (workOf d m o s) rec)) in
         record {
           leaves = λ s. same-left (record { counters = c₂; at = d .at + size }) m₂ o s (advance rec (workOf d m o s)) o
@@ -114,8 +135,38 @@ module _ (d : Draft) (m o : List ℕ) (size : ℕ) (i : InOutput d m o size) whe
   pub view-read : {v : ℕ} → v ≡ leNat (part o (d .at + 8) 8) → v ≡ viewOf rec
   view-read q = q ∙ ap leNat (sym (field-at 8 8 (omega (arith, rec-long))))
 
-  pub block-size : {kind : ℕ} → kind ≡ leNat (part o (d .at + 4) 2) → kind ≡ 3 → size ≡ 56
-  block-size q k = sym length-rec ∙ block-length _ rec (i .progress .form) (ap leNat (field-at 4 2 (omega (arith, rec-long))) ∙ sym q ∙ k)
+  -- the same bytes, with all that stands behind them
+  abbrev there : List ℕ
+  there = drop (d .at) o
+
+  there-field : (a k : ℕ) → a + k ≤ size → part there a k ≡ part rec a k
+  there-field a k h = part-drop o (d .at) a k ∙ sym (field-at a k h)
+
+  there-kind : kindOf there ≡ kindOf rec
+  there-kind = ap leNat (there-field 4 2 (omega (arith, rec-long)))
+
+  pub in-place : Stands o (d .at)
+  in-place =
+      let S = form-stands _ rec (i .progress .form) in
+      let n : countOf there ≡ countOf rec = ap leNat (there-field 16 2 (omega (arith, rec-long))) in
+      record {
+        head = omega (arith, rec-long, i .whole);
+        block = λ e. omega (arith, S .block (sym there-kind ∙ e), length-rec, i .whole);
+        timeouts = λ e. omega (arith, S .timeouts (λ k. e (there-kind ∙ k)), length-rec, i .whole, n);
+      }
+
+  -- to the commit it means what the record means
+  commit-same : {p : Progress} (W : Work) → p ≡ progressAt o (d .at) → commitAfter (progressMeans o p) W ≡ commitAfter (certificateOf rec) W
+  commit-same {p} W q = rw (q, progress-means o (d .at)) (go (eqb (kindOf rec) 3) refl)
+    where
+      go : (t : Bool) → eqb (kindOf rec) 3 ≡ t → commitAfter (certificateOf there) W ≡ commitAfter (certificateOf rec) W
+      go true e =
+          let k : kindOf rec ≡ 3 = eqb-true _ _ e in
+          let l : 56 ≤ size = omega (arith, form-stands _ rec (i .progress .form) .block k, length-rec) in
+          commit-block there W (there-kind ∙ k) ∙ rw (there-field 8 8 (omega (arith, l)), there-field 16 32 (omega (arith, l))) (sym (commit-block rec W k))
+      go false e =
+          let k = eqb-false (kindOf rec) 3 e in
+          commit-none there W (λ f. k (sym there-kind ∙ f)) ∙ sym (commit-none rec W k)
 
   -- ---- regular afterwards
   module _ (R : Regular (workOf d m o emptyStore)) (b : IsBytes o) where
@@ -135,7 +186,7 @@ module _ (d : Draft) (m o : List ℕ) (size : ℕ) (i : InOutput d m o size) whe
     advance-out = omega (arith, length-append (take (d .at) o) rec, length-rec)
 
     -- room for a commit behind a block certificate
-    pub commit-ready : {d₁ : Draft} {m₁ : List ℕ} → kindOf rec ≡ 3 → Does (advance rec) d m o d₁ m₁ o → Ready d₁ m₁ o 48
+    commit-ready : {d₁ : Draft} {m₁ : List ℕ} → kindOf rec ≡ 3 → Does (advance rec) d m o d₁ m₁ o → Ready d₁ m₁ o 48
     commit-ready k a =
         let e : certificateRoom rec ≡ length rec + 48 = rw k in
         ready-next (advance rec) size 48 a (i .ready) advance-regular advance-out (omega (arith, e, length-rec))
@@ -149,36 +200,27 @@ module _ (d : Draft) (m o : List ℕ) (size : ℕ) (i : InOutput d m o size) whe
         ap (λ (x : ℕ). leBytes 2 x) (sym (i .sender)) ∙ ap (λ (k : ℕ). leBytes k (leNat p)) (sym l) ∙ leBytes-leNat p (bytes-part rec 6 2 (rec-form .bytes)) in
         ap (patch rec 6) e ∙ patch-part rec 6 2 (omega (arith, rec-long, length-rec))
 
-    progress-is : (s : List Block) → progress rec (workOf d m o s) ≡ commitAfter (certificateOf rec) (advance rec (workOf d m o s))
+    progress-is : (s : List Held) → progress rec (workOf d m o s) ≡ commitAfter (certificateOf rec) (advance rec (workOf d m o s))
     unfolding progress advance
     progress-is s = rw (sender-is, form-view (workOf d m o s) rec, le-leb _ _ (i .view))
 
-    module _ {kind : ℕ} {d₁ : Draft} {m₁ : List ℕ} (q : kind ≡ leNat (part o (d .at + 4) 2)) (a : Does (advance rec) d m o d₁ m₁ o) where
-      kind-read : kind ≡ kindOf rec
-      kind-read = q ∙ ap leNat (sym (field-at 4 2 (omega (arith, rec-long))))
+    module _ {p : Progress} {d₁ : Draft} {m₁ : List ℕ} (q : p ≡ progressAt o (d .at)) (a : Does (advance rec) d m o d₁ m₁ o) where
+      pub on-timeouts : {t : TimeoutCertificate} → p ≡ Timeouts t → Does (progress rec) d m o d₁ m₁ o
+      unfolding progressMeans
+      on-timeouts e = does-same (advance rec) (progress rec) (λ s. sym (progress-is s ∙ sym (commit-same _ q) ∙ rw e)) a
 
-      timed-is : (s : List Block) → d₁ .counters .timed .0 ≡ timed (advance rec (workOf d m o s))
-      timed-is s = ap (λ (l : Left). l .counters .timed .0) (a .leaves s)
+      module _ {k : BlockCertificate} (e : p ≡ Block k) where
+        pub block-ready : Ready d₁ m₁ o 48
+        block-ready = commit-ready (sym there-kind ∙ block-kind o (d .at) q e) a
 
-      pub on-timeouts : (kind ≡ 3 → ⊥) → Does (progress rec) d m o d₁ m₁ o
-      on-timeouts h = does-same (advance rec) (progress rec) (λ s. sym (progress-is s ∙ commit-none _ _ (λ e. h (kind-read ∙ e)))) a
+        pub block-within : Within o (Block k)
+        block-within = rw e at (within o (d .at) in-place q)
 
-      pub on-block-timed : {v : ℕ} → v ≡ leNat (part o (d .at + 8) 8) → kind ≡ 3 → v ≤ d₁ .counters .timed .0 → Does (progress rec) d m o d₁ m₁ o
-      on-block-timed {v} p k h =
-          does-same (advance rec) (progress rec)
-          (λ s. sym (progress-is s ∙ commit-block _ _ (sym kind-read ∙ k) ∙ rw (← view-read p, ← timed-is s, le-ltb _ _ h))) a
-
-      pub kind-block : kind ≡ 3 → kindOf rec ≡ 3
-      kind-block k = sym kind-read ∙ k
-
-      pub on-block : {v : ℕ} {x : List ℕ} {d₂ : Draft} {m₂ o₂ : List ℕ} → v ≡ leNat (part o (d .at + 8) 8) → kind ≡ 3 → d₁ .counters .timed .0 < v → x ≡ part o (d .at + 16) 32
-          → Does (sendCommit v x) d₁ m₁ o d₂ m₂ o₂ → Does (progress rec) d m o d₂ m₂ o₂
-      on-block {v} {x} p k h y c =
-          let size-is : size ≡ 56 = block-size q k in
-          let name : x ≡ nameOf rec = y ∙ sym (field-at 16 32 (omega arith)) in
-          does-same (λ W. sendCommit v x (advance rec W)) (progress rec)
-          (λ s. sym (progress-is s ∙ commit-block _ _ (kind-block k) ∙ rw (← view-read p, ← name, ← timed-is s, lt-ltb _ _ h)))
-          (does-then (advance rec) (sendCommit v x) a c (commit-longer v x))
+        pub on-block : {d₂ : Draft} {m₂ o₂ : List ℕ} → Does (commitAfter (progressMeans o (Block k))) d₁ m₁ o d₂ m₂ o₂ → Does (progress rec) d m o d₂ m₂ o₂
+        on-block c =
+            let x = progressMeans o (Block k) in
+            does-same (λ W. commitAfter x (advance rec W)) (progress rec) (λ s. sym (progress-is s ∙ sym (commit-same _ q) ∙ rw e))
+            (does-then (advance rec) (commitAfter x) a c (commit-after-longer x))
 
 -- ---- a certificate that came in
 module _ (j : ℕ) (r : List ℕ) (l : 8 ≤ length r) where
@@ -209,14 +251,6 @@ module _ (j : ℕ) (r : List ℕ) (l : 8 ≤ length r) where
 progress-sender : (W : Work) (r : List ℕ) → 8 ≤ length r → progress (withSender (own W) r) W ≡ progress r W
 unfolding progress
 progress-sender W r l = rw (certificate-sender (own W) r l, patch-patch r 6 (leBytes 2 (own W)) (leBytes 2 (own W)) refl)
-
-pub longer-if : (W A B : Work) (t : Bool) → Longer W A → Longer W B → Longer W (cond t A B)
-longer-if W A B true a b = a
-longer-if W A B false a b = b
-
-commit-after-longer : (k : Certificate) (W : Work) → Longer W (commitAfter k W)
-commit-after-longer (byBlock v x g) W = longer-if W _ _ (ltb (timed W) v) (commit-longer v x W) (omega arith)
-commit-after-longer (byTimeouts v ts) W = omega arith
 
 -- one that isn't below the current view is written
 pub progress-long : (W : Work) (r : List ℕ) → viewNow W ≤ viewOf r → length (W .out) + length r ≤ length (progress r W .out)
@@ -276,7 +310,7 @@ adopt-does d m o r {c} h e =
 
 module _ (d : Draft) (m o r : List ℕ) (a : Ready d m o (certificateRoom r)) (p : IsProgress (replicas (settingsOf m)) r) where
   long : 24 ≤ length r
-  long = form-asks _ r (p .form) .0
+  long = form-stands _ r (p .form) .head
 
   -- it is below the current view
   pub below-does : {v : ℕ} {c : Counters} → v ≡ leNat (part r 8 8) → v < d .counters .view .0 → c ≡ adopting (d .counters) (safeCertificate (settingsOf m) (certificateOf r))

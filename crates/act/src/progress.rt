@@ -4,7 +4,6 @@ use crate::send_commit;
 use certificate::safe::safe_certificate;
 use codec::name_at;
 use codec::num::put_u16;
-use codec::num::u16_at;
 use codec::num::u64_at;
 use codec::put;
 use counters::Counters;
@@ -15,16 +14,19 @@ use memory::put_entry;
 use memory::settings;
 use memory::window::enter;
 use settings::View;
+use wire::BlockCertificate;
+use wire::Progress;
 ghost use mathlib.Core.Path.{_≡_};
 ghost use Prim.Native.Nat.{_≤_};
 ghost use lib.ListN.{length};
 ghost use Rattle.settings.specs.Quorum.{largest, replicas};
 ghost use Rattle.codec.specs.Bytes.{part};
-ghost use Rattle.wire.specs.Content.{certificateOf};
+ghost use Rattle.wire.specs.declared.Progress.the-variants.{Block};
+ghost use Rattle.wire.specs.Content.{certificateOf, progressMeans, Within};
 ghost use Rattle.certificate.specs.Safe.{safeCertificate};
 ghost use Rattle.memory.specs.Layout.{memoryLength, settingsOf};
 ghost use Rattle.counters.specs.Counters.{adopting};
-ghost use Rattle.protocol.specs.Events.{progress};
+ghost use Rattle.protocol.specs.Events.{commitAfter, progress};
 ghost use Rattle.act.specs.Draft.{Does, Ready};
 ghost use Rattle.act.specs.Progress.{HasForm, IsProgress, certificateRoom, advance, InOutput};
 
@@ -33,7 +35,8 @@ pub fn adopt_safe(mem: &[u8], c: Counters, rec: &[u8]) -> Counters
     requires { ⌜ (memoryLength ≤ length (now mem)) × ((replicas (settingsOf (now mem)) ≤ largest) × HasForm (replicas (settingsOf (now mem))) (now rec)) ⌝ }
     ensures { λ r. ⌜ r ≡ adopting c (safeCertificate (settingsOf (now (mem .entry))) (certificateOf (now (rec .entry)))) ⌝ }
 {
-    adopting(c, safe_certificate(rec, settings(mem)))
+    let certificate = wire::read::progress(rec, 0);
+    adopting(c, safe_certificate(rec, certificate, settings(mem)))
 }
 
 // The record of so many bytes that stands behind what is written is adopted and becomes part of what is written, and the view after it is entered.
@@ -53,23 +56,32 @@ fn advance(mem: &mut [u8], out: &[u8], d: Draft, size: usize) -> Draft
     }
 }
 
+// Behind a block certificate that stands in the output: a commit for its view and name, unless that view is timed.
+fn commit_after(mem: &mut [u8], out: &mut [u8], d: Draft, b: BlockCertificate) -> Draft
+    requires { ⌜ Ready d (now mem) (now out) 48 × Within (now out) (Block b) ⌝ }
+    ensures { λ r. ⌜ Does (commitAfter (progressMeans (now (out .entry)) (Block b))) d (now (mem .entry)) (now (out .entry)) r (now (mem .exit)) (now (out .exit)) ⌝ }
+{
+    let c = d.counters;
+    let view = b.view;
+    let at = b.place;
+    if c.timed.0 < view.0 {
+        let name = name_at(out, at + 16);
+        return send_commit(mem, out, d, view.0, name);
+    }
+    d
+}
+
 // A certificate whose record stands in the output behind what is written, and that isn't below the current view: it ends that view.
 pub fn act_on(mem: &mut [u8], out: &mut [u8], d: Draft, size: usize) -> Draft
     requires { ⌜ InOutput d (now mem) (now out) size ⌝ }
     ensures { λ r. ⌜ Does (progress (part (now (out .entry)) (d .at) size)) d (now (mem .entry)) (now (out .entry)) r (now (mem .exit)) (now (out .exit)) ⌝ }
 {
-    let at = d.at;
-    let kind = u16_at(out, at + 4);
-    let view = u64_at(out, at + 8);
+    let certificate = wire::read::progress(out, d.at);
     let next = advance(mem, out, d, size);
-    let c = next.counters;
-    if kind == 3 {
-        if c.timed.0 < view {
-            let name = name_at(out, at + 16);
-            return send_commit(mem, out, next, view, name);
-        }
+    match certificate {
+        Progress::Block(b) => commit_after(mem, out, next, b),
+        Progress::Timeouts(_) => next,
     }
-    next
 }
 
 // A certificate that came in: its record is forwarded with own as sender, or only adopted.

@@ -5,7 +5,6 @@ use mathlib.Core.List.{List}
 use lib.Dec.{eqb, ltb}
 use Rattle.codec.specs.Names.{lessBytes, zeroName}
 use Rattle.wire.specs.declared.Carried.{Carried}
-use Rattle.wire.specs.Fields.{viewOf, nameOf, signersOf}
 use Rattle.certificate.specs.declared.Certificate.{Certificate}
 use Rattle.certificate.specs.declared.Locks.{Locks}
 
@@ -44,7 +43,3 @@ highest s = cond (outranks (s .weak) (s .lock)) (s .weak) (s .lock)
 -- "certificate kind u16 (3, or 4 for weak)"
 unfoldable pub carriedCertificate : Carried → Certificate
 carriedCertificate c = record { block = eqb (c .kind) 3; view = c .view; name = c .name; signers = c .signers }
-
--- kind 3
-unfoldable pub blockCertificateOf : List ℕ → Certificate
-blockCertificateOf r = blockCertificate (viewOf r) (nameOf r) (signersOf r)

@@ -1,20 +1,21 @@
 // The place 9: when a certificate, a timeout and a timeout certificate are good.
 use crate::Certificate;
 use crate::carried;
-use codec::num::u16_at;
+use codec::name_at;
 use codec::num::u64_at;
 use settings::Settings;
+use wire::BlockCertificate;
+use wire::Progress;
+use wire::TimeoutCertificate;
 use wire::read::timeout;
-use wire::read::vote;
 ghost use mathlib.Core.Path.{_≡_};
-ghost use mathlib.Core.Bool.{false};
 ghost use mathlib.Core.List.{map};
 ghost use Prim.Native.Nat.{_+_, _*_, _≤_};
 ghost use lib.ListN.{length, drop};
-ghost use Rattle.wire.specs.Fields.{cut};
-ghost use Rattle.wire.specs.Shape.{certificateLength, certificateKindBad};
-ghost use Rattle.wire.specs.Content.{timeoutOf, certificateOf};
-ghost use Rattle.certificate.specs.Rank.{blockCertificateOf};
+ghost use Rattle.wire.specs.declared.Progress.the-variants.{Block, Timeouts};
+ghost use Rattle.wire.specs.Fields.{nameOf, cut};
+ghost use Rattle.wire.specs.Content.{timeoutOf, progressMeans, Within};
+ghost use Rattle.certificate.specs.Rank.{blockCertificate};
 ghost use Rattle.certificate.specs.Good.{timeoutGood, all, progressGood};
 
 pub fn timeout_good(rec: &[u8], settings: Settings) -> bool
@@ -48,36 +49,45 @@ fn all_good(rec: &[u8], count: usize, settings: Settings) -> bool
     true
 }
 
-// The block certificate that a record of kind 3 is.
-pub fn block_certificate(rec: &[u8]) -> Certificate
-    requires { ⌜ 56 ≤ length (now rec) ⌝ }
-    ensures { λ r. ⌜ r ≡ blockCertificateOf (now (rec .entry)) ⌝ }
+// The block certificate that stands in a record: its numbers, and the name beside them.
+pub fn block_certificate(rec: &[u8], b: BlockCertificate) -> Certificate
+    requires { ⌜ Within (now rec) (Block b) ⌝ }
+    ensures { λ r. ⌜ r ≡ blockCertificate (b .view .0) (nameOf (drop (b .place) (now (rec .entry)))) (b .signers) ⌝ }
 {
-    let v = vote(rec, 8);
-    let view = v.view;
-    let name = v.name;
+    let at = b.place;
+    let view = b.view;
+    let name = name_at(rec, at + 16);
     Certificate {
         block: true,
         view,
         name,
-        signers: u64_at(rec, 48),
+        signers: b.signers,
     }
 }
 
-// A progress certificate, a record of kind 3 or 6 that has the place "shape" behind it.
-pub fn progress_good(rec: &[u8], settings: Settings) -> bool
-    requires { ⌜ (8 ≤ length (now rec)) × ((certificateLength (now rec) ≡ false) × (certificateKindBad (now rec) ≡ false)) ⌝ }
-    ensures { λ r. ⌜ r ≡ progressGood settings (certificateOf (now (rec .entry))) ⌝ }
+// Kind 6: of a view from 1 on, and enough timeouts, all of them good.
+pub fn timeouts_good(rec: &[u8], t: TimeoutCertificate, settings: Settings) -> bool
+    requires { ⌜ Within (now rec) (Timeouts t) ⌝ }
+    ensures { λ r. ⌜ r ≡ progressGood settings (progressMeans (now (rec .entry)) (Timeouts t)) ⌝ }
 {
-    if u16_at(rec, 4) == 3 {
-        return block_certificate(rec).is_good(settings);
-    }
-    if u64_at(rec, 8) == 0 {
+    let at = t.place;
+    let count = t.count;
+    if u64_at(rec, at + 8) == 0 {
         return false;
     }
-    let count = u16_at(rec, 16) as usize;
     if (count as u64) < settings.timeout_quorum() {
         return false;
     }
-    all_good(rec, count, settings)
+    all_good(&rec[at..], count, settings)
+}
+
+// A progress certificate, as it was read off its record.
+pub fn progress_good(rec: &[u8], progress: Progress, settings: Settings) -> bool
+    requires { ⌜ Within (now rec) progress ⌝ }
+    ensures { λ r. ⌜ r ≡ progressGood settings (progressMeans (now (rec .entry)) progress) ⌝ }
+{
+    match progress {
+        Progress::Block(b) => block_certificate(rec, b).is_good(settings),
+        Progress::Timeouts(t) => timeouts_good(rec, t, settings),
+    }
 }

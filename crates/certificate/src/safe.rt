@@ -6,6 +6,7 @@ use codec::name::same;
 use codec::num::u16_at;
 use settings::Settings;
 use settings::View;
+use wire::Progress;
 use wire::Vote;
 use wire::read::timeout;
 use wire::read::vote;
@@ -14,8 +15,8 @@ ghost use mathlib.Core.List.{map};
 ghost use Prim.Native.Nat.{_+_, _*_, _-_, _≤_, _<_, _^_};
 ghost use lib.ListN.{length, drop};
 ghost use Rattle.settings.specs.Quorum.{largest, replicas};
-ghost use Rattle.wire.specs.Fields.{kindOf, countOf, cut};
-ghost use Rattle.wire.specs.Content.{timeoutOf, certificateOf};
+ghost use Rattle.wire.specs.Fields.{cut};
+ghost use Rattle.wire.specs.Content.{timeoutOf, progressMeans, Within};
 ghost use Rattle.certificate.specs.Safe.{signs, joins, gives, backedBy, backing, better, each, carriedBy, builtBy, safeOfTimeouts, safeCertificate};
 
 pub fn signs(signers: u64, i: u64) -> bool
@@ -72,7 +73,7 @@ fn backed_by(n: u64, rec: &[u8], high: Vote, b: Backing) -> Backing
 }
 
 fn count_backing(n: u64, rec: &[u8], count: usize, high: Vote) -> Backing
-    requires { ⌜ (n ≤ largest) × ((24 + 112 * count ≤ length (now rec)) × (count < 2 ^ 16)) ⌝ }
+    requires { ⌜ (n ≤ largest) × ((24 + 112 * count ≤ length (now rec)) × (count < 2 ^ 62)) ⌝ }
     ensures { λ r. ⌜ r ≡ backing n (high .view .0) (high .name) (map timeoutOf (cut count (drop 24 (now (rec .entry))))) ⌝ }
 {
     let mut b = Backing {
@@ -122,7 +123,7 @@ fn built_by(
     settings: Settings,
     k: Certificate,
 ) -> Certificate
-    requires { ⌜ (replicas settings ≤ largest) × ((24 + 112 * count ≤ length (now rec)) × ((count < 2 ^ 16) × (112 ≤ length (now slot)))) ⌝ }
+    requires { ⌜ (replicas settings ≤ largest) × ((24 + 112 * count ≤ length (now rec)) × ((count < 2 ^ 62) × (112 ≤ length (now slot)))) ⌝ }
     ensures { λ r. ⌜ r ≡ builtBy settings (map timeoutOf (cut count (drop 24 (now (rec .entry))))) (timeoutOf (now (slot .entry))) k ⌝ }
 {
     let high = vote(slot, 16);
@@ -157,7 +158,7 @@ fn built_by(
 }
 
 fn built_best(rec: &[u8], count: usize, settings: Settings, k: Certificate) -> Certificate
-    requires { ⌜ (replicas settings ≤ largest) × ((24 + 112 * count ≤ length (now rec)) × (count < 2 ^ 16)) ⌝ }
+    requires { ⌜ (replicas settings ≤ largest) × ((24 + 112 * count ≤ length (now rec)) × (count < 2 ^ 62)) ⌝ }
     ensures { λ r. ⌜ r ≡ each (builtBy settings (map timeoutOf (cut count (drop 24 (now (rec .entry)))))) k (map timeoutOf (cut count (drop 24 (now (rec .entry))))) ⌝ }
 {
     let mut best = k;
@@ -172,7 +173,7 @@ fn built_best(rec: &[u8], count: usize, settings: Settings, k: Certificate) -> C
 
 // The safe certificate of the timeouts of a record of kind 6.
 fn safe_of_timeouts(rec: &[u8], count: usize, settings: Settings) -> Certificate
-    requires { ⌜ (replicas settings ≤ largest) × ((24 + 112 * count ≤ length (now rec)) × (count < 2 ^ 16)) ⌝ }
+    requires { ⌜ (replicas settings ≤ largest) × ((24 + 112 * count ≤ length (now rec)) × (count < 2 ^ 62)) ⌝ }
     ensures { λ r. ⌜ r ≡ safeOfTimeouts settings (map timeoutOf (cut count (drop 24 (now (rec .entry))))) ⌝ }
 {
     if count == 0 {
@@ -189,14 +190,16 @@ fn safe_of_timeouts(rec: &[u8], count: usize, settings: Settings) -> Certificate
     built_best(rec, count, settings, highest)
 }
 
-// The safe certificate of a progress certificate, a record of kind 3 or else 6, of whatever content.
-pub fn safe_certificate(rec: &[u8], settings: Settings) -> Certificate
-    requires { ⌜ (replicas settings ≤ largest) × ((24 ≤ length (now rec)) × ((kindOf (now rec) ≡ 3 → 56 ≤ length (now rec)) × ((kindOf (now rec) ≡ 3 → ⊥) → 24 + 112 * countOf (now rec) ≤ length (now rec)))) ⌝ }
-    ensures { λ r. ⌜ r ≡ safeCertificate settings (certificateOf (now (rec .entry))) ⌝ }
+// The safe certificate of a progress certificate, of whatever content. A block certificate is its own.
+pub fn safe_certificate(rec: &[u8], progress: Progress, settings: Settings) -> Certificate
+    requires { ⌜ (replicas settings ≤ largest) × Within (now rec) progress ⌝ }
+    ensures { λ r. ⌜ r ≡ safeCertificate settings (progressMeans (now (rec .entry)) progress) ⌝ }
 {
-    if u16_at(rec, 4) == 3 {
-        return block_certificate(rec);
+    match progress {
+        Progress::Block(b) => block_certificate(rec, b),
+        Progress::Timeouts(t) => {
+            let at = t.place;
+            safe_of_timeouts(&rec[at..], t.count, settings)
+        }
     }
-    let count = u16_at(rec, 16) as usize;
-    safe_of_timeouts(rec, count, settings)
 }

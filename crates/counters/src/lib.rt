@@ -1,5 +1,5 @@
-// The replica's counters: one record that every call updates, lent by the host.
-// Promises: each function by value leaves what its definition in specs/ says; the thin functions over the lent record do the same in place.
+// The replica's counters: one record that every call updates, lent by the host. The calls of `replica` copy it out, the functions here make the
+// next one by value, and the calls store that whole. Promises: each function leaves what its definition in specs/ says.
 // Any bits are a value of it: numbers and names only. Rests on `settings`, `wire`, `certificate`, `blocks` and the shared modules of `walks`.
 use blocks::Block;
 use certificate::Certificate;
@@ -144,22 +144,4 @@ pub fn releasing(c: Counters, tip: Block) -> Counters
     let mut next = c;
     next.tip = tip;
     next
-}
-
-// The thin functions over the lent record: it is copied out, a function by value makes the next one, and that is stored whole.
-
-pub fn adopt(counters: &mut Counters, k: Certificate)
-    ensures { λ _. ⌜ now (counters .exit) ≡ adopting (now (counters .entry)) k ⌝ }
-{
-    let old = *counters;
-    let new = adopting(old, k);
-    *counters = new;
-}
-
-pub fn enter(counters: &mut Counters, view: View)
-    ensures { λ _. ⌜ now (counters .exit) ≡ entering (now (counters .entry)) view ⌝ }
-{
-    let old = *counters;
-    let new = entering(old, view);
-    *counters = new;
 }

@@ -22,7 +22,7 @@ use Rattle.act.specs.declared.Draft.{Draft}
 use Rattle.act.specs.Draft.{workOf, Left, Does}
 use Rattle.act.specs.Progress.{HasForm, IsProgress}
 use Rattle.act.proofs.Steps.{does-same, does-nothing}
-use Rattle.act.proofs.Advancing.{form-asks}
+use Rattle.act.proofs.Advancing.{form-stands}
 use Rattle.event.specs.declared.Event.{Event}
 use Rattle.event.specs.Event.{Gives, nowhere, HeldIs, placeFor, countedIn, Asked, blockOfChild, proposedBlock, saidBlock}
 use Rattle.event.proofs.Giving.{gives-parts, gives-none, gives-given, gives-same}
@@ -102,7 +102,7 @@ certificate-gives d m o r t p a x =
 
 -- ---- a proposal, read
 pub inner-long : (n : ℕ) (r : List ℕ) → IsProgress n (progressOf r) → 112 ≤ length r
-inner-long n r p = omega (arith, form-asks n (progressOf r) (p .form) .0, length-drop 88 r)
+inner-long n r p = omega (arith, form-stands n (progressOf r) (p .form) .head, length-drop 88 r)
 
 pub inner-is : (n : ℕ) (r : List ℕ) → IsProgress n (progressOf r) → IsProgress n (take (length r - 88) (drop 88 r))
 inner-is n r p = rw (part-rest r 88) p

@@ -21,6 +21,7 @@ use settings::Settings;
 use settings::View;
 use wire::Child;
 use wire::Vote;
+use wire::read::progress;
 use wire::write::put_block_certificate;
 use wire::write::put_proposal;
 ghost use mathlib.Core.Path.{_≡_};
@@ -51,8 +52,8 @@ fn safe_of_entry(mem: &[u8]) -> Certificate
     requires { ⌜ (memoryLength ≤ length (now mem)) × ((replicas (settingsOf (now mem)) ≤ largest) × HasForm (replicas (settingsOf (now mem))) (entryOf (now mem))) ⌝ }
     ensures { λ r. ⌜ r ≡ safeOfEntry (now (mem .entry)) ⌝ }
 {
-    let to = 16 + entry_length(mem);
-    safe_certificate(&mem[16..to], settings(mem))
+    let entry = &mem[16..16 + entry_length(mem)];
+    safe_certificate(entry, progress(entry, 0), settings(mem))
 }
 
 // The proposal of a child, with the entry certificate, is written behind what is written; the place after it.

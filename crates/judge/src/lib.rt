@@ -17,6 +17,7 @@ use refusals::early::propose_early;
 use refusals::regions::regions;
 use settings::View;
 use shape::Verdict;
+use wire::read::progress;
 ghost use mathlib.Core.Path.{_≡_};
 ghost use mathlib.Core.Bool.{true, false};
 ghost use mathlib.Core.List.{List, []};
@@ -85,7 +86,8 @@ fn look_up(mem: &[u8], rec: &[u8]) -> Want
 {
     let kind = u16_at(rec, 4);
     if kind == 7 {
-        let k = safe_certificate(&rec[88..], settings(mem));
+        let inner = progress(rec, 88);
+        let k = safe_certificate(rec, inner, settings(mem));
         let base = k.name;
         return names(mem, name_at(rec, 16), base);
     }
@@ -100,8 +102,8 @@ fn entry_base(mem: &[u8]) -> [u8; 32]
     requires { ⌜ (memoryLength ≤ length (now mem)) × ((replicas (settingsOf (now mem)) ≤ largest) × (certificateSized (replicas (settingsOf (now mem))) (entryOf (now mem)) ≡ true)) ⌝ }
     ensures { λ r. ⌜ r ≡ safeBlock (now (mem .entry)) (certificateOf (entryOf (now (mem .entry)))) ⌝ }
 {
-    let len = entry_length(mem);
-    let k = safe_certificate(&mem[16..16 + len], settings(mem));
+    let entry = &mem[16..16 + entry_length(mem)];
+    let k = safe_certificate(entry, progress(entry, 0), settings(mem));
     let base = k.name;
     base
 }

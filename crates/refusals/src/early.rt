@@ -2,6 +2,7 @@
 use certificate::good::block_certificate;
 use certificate::good::progress_good;
 use certificate::good::timeout_good;
+use certificate::good::timeouts_good;
 use codec::name::is_zero;
 use codec::name::same;
 use codec::name::same_bytes;
@@ -21,7 +22,11 @@ use memory::window::leader;
 use memory::window::lowest;
 use settings::Settings;
 use settings::View;
+use wire::BlockCertificate;
+use wire::Progress;
+use wire::TimeoutCertificate;
 use wire::Vote;
+use wire::read::progress;
 use wire::read::vote;
 ghost use mathlib.Core.Path.{_≡_};
 ghost use mathlib.Core.Bool.{not, _&&_, _||_, false};
@@ -31,13 +36,14 @@ ghost use lib.Dec.{leb, ltb, eqb};
 ghost use lib.ListN.{length};
 ghost use Rattle.settings.specs.Answer.{_⇒_};
 ghost use Rattle.settings.specs.Quorum.{largest, lastView, replicas};
-ghost use Rattle.wire.specs.Fields.{kindOf, senderOf, viewOf, nameOf, progressOf};
+ghost use Rattle.wire.specs.Fields.{senderOf, viewOf, nameOf, progressOf};
 ghost use Rattle.wire.specs.Shape.{certificateLength, certificateKindBad, badLength, badKind};
-ghost use Rattle.wire.specs.Content.{vote, commit, timeout, certificate, timeoutOf, certificateOf, content};
+ghost use Rattle.wire.specs.declared.Progress.the-variants.{Block, Timeouts};
+ghost use Rattle.wire.specs.Content.{vote, commit, timeout, certificate, timeoutOf, certificateOf, content, progressMeans, Within};
 ghost use Rattle.certificate.specs.Good.{progressGood};
 ghost use Rattle.memory.specs.Layout.{memoryLength, rowSize, settingsOf, ownOf};
 ghost use Rattle.memory.specs.Window.{leaderOf};
-ghost use Rattle.protocol.specs.Refusals.{refusals};
+ghost use Rattle.protocol.specs.Refusals.{refusals, viewOfProgress};
 ghost use Rattle.refusals.specs.Number.{firstOf};
 ghost use Rattle.refusals.specs.Early.{lent, ballotRules, keptRules, votedRules, proposalRules, earlyRules, earlyPropose};
 
@@ -117,15 +123,15 @@ fn commit_early(c: Counters, mem: &[u8], rec: &[u8]) -> u64
 }
 
 // Kind 3. It has no window: a certificate of any view below the last may be above the lock.
-fn block_certificate_early(c: Counters, mem: &[u8], rec: &[u8]) -> u64
-    requires { ⌜ (16 ≤ length (now mem)) × ((56 ≤ length (now rec)) × (kindOf (now rec) ≡ 3)) ⌝ }
-    ensures { λ r. ⌜ r ≡ firstOf (refusals (lent c (now (mem .entry)) []) (now (rec .entry)) (certificate (senderOf (now (rec .entry))) (certificateOf (now (rec .entry))))) ⌝ }
+fn block_certificate_early(c: Counters, mem: &[u8], rec: &[u8], b: BlockCertificate) -> u64
+    requires { ⌜ (16 ≤ length (now mem)) × ((8 ≤ length (now rec)) × Within (now rec) (Block b)) ⌝ }
+    ensures { λ r. ⌜ r ≡ firstOf (refusals (lent c (now (mem .entry)) []) (now (rec .entry)) (certificate (senderOf (now (rec .entry))) (progressMeans (now (rec .entry)) (Block b)))) ⌝ }
 {
     let s = settings(mem);
     if s.n() <= u16_at(rec, 6) as u64 {
         return 6;
     }
-    let k = block_certificate(rec);
+    let k = block_certificate(rec, b);
     if View::LAST <= k.view.0 {
         return 8;
     }
@@ -141,25 +147,37 @@ fn block_certificate_early(c: Counters, mem: &[u8], rec: &[u8]) -> u64
 }
 
 // Kind 6.
-fn timeout_certificate_early(c: Counters, mem: &[u8], rec: &[u8]) -> u64
-    requires { ⌜ (16 ≤ length (now mem)) × ((8 ≤ length (now rec)) × ((certificateLength (now rec) ≡ false) × ((certificateKindBad (now rec) ≡ false) × (kindOf (now rec) ≡ 3 → ⊥)))) ⌝ }
-    ensures { λ r. ⌜ r ≡ firstOf (refusals (lent c (now (mem .entry)) []) (now (rec .entry)) (certificate (senderOf (now (rec .entry))) (certificateOf (now (rec .entry))))) ⌝ }
+fn timeout_certificate_early(c: Counters, mem: &[u8], rec: &[u8], t: TimeoutCertificate) -> u64
+    requires { ⌜ (16 ≤ length (now mem)) × ((8 ≤ length (now rec)) × Within (now rec) (Timeouts t)) ⌝ }
+    ensures { λ r. ⌜ r ≡ firstOf (refusals (lent c (now (mem .entry)) []) (now (rec .entry)) (certificate (senderOf (now (rec .entry))) (progressMeans (now (rec .entry)) (Timeouts t)))) ⌝ }
 {
     let s = settings(mem);
     if s.n() <= u16_at(rec, 6) as u64 {
         return 6;
     }
-    let v = u64_at(rec, 8);
+    let v = u64_at(rec, t.place + 8);
     if below_view(c.view.0, v) {
         return 7;
     }
     if View::LAST <= v {
         return 8;
     }
-    if progress_good(rec, s) {
+    if timeouts_good(rec, t, s) {
         return 0;
     }
     9
+}
+
+// Kinds 3 and 6: a certificate that is a record of its own.
+fn certificate_early(c: Counters, mem: &[u8], rec: &[u8]) -> u64
+    requires { ⌜ (16 ≤ length (now mem)) × ((certificateLength (now rec) ≡ false) × (certificateKindBad (now rec) ≡ false)) ⌝ }
+    ensures { λ r. ⌜ r ≡ firstOf (refusals (lent c (now (mem .entry)) []) (now (rec .entry)) (certificate (senderOf (now (rec .entry))) (certificateOf (now (rec .entry))))) ⌝ }
+{
+    let read = progress(rec, 0);
+    match read {
+        Progress::Block(b) => block_certificate_early(c, mem, rec, b),
+        Progress::Timeouts(t) => timeout_certificate_early(c, mem, rec, t),
+    }
 }
 
 // 10 and 11 of kind 5: the kept timeout of a sender, all its bytes compared.
@@ -213,18 +231,29 @@ fn not_leader(mem: &[u8], sender: u64, v: u64) -> bool
     sender != leader(settings(mem), v)
 }
 
-// 9 of kind 7: its progress certificate isn't good, or isn't of the view before.
-fn progress_bad(inner: &[u8], settings: Settings, v: u64) -> bool
-    requires { ⌜ (8 ≤ length (now inner)) × ((certificateLength (now inner) ≡ false) × (certificateKindBad (now inner) ≡ false)) ⌝ }
-    ensures { λ r. ⌜ r ≡ not (progressGood settings (certificateOf (now (inner .entry))) && eqb (suc (viewOf (now (inner .entry)))) v) ⌝ }
+// The view of a progress certificate.
+fn progress_view(rec: &[u8], progress: Progress) -> u64
+    requires { ⌜ Within (now rec) progress ⌝ }
+    ensures { λ r. ⌜ r ≡ viewOfProgress (progressMeans (now (rec .entry)) progress) ⌝ }
 {
-    if !progress_good(inner, settings) {
+    match progress {
+        Progress::Block(b) => b.view.0,
+        Progress::Timeouts(t) => u64_at(rec, t.place + 8),
+    }
+}
+
+// 9 of kind 7: its progress certificate isn't good, or isn't of the view before.
+fn progress_bad(rec: &[u8], progress: Progress, settings: Settings, v: u64) -> bool
+    requires { ⌜ Within (now rec) progress ⌝ }
+    ensures { λ r. ⌜ r ≡ not (progressGood settings (progressMeans (now (rec .entry)) progress) && eqb (suc (viewOfProgress (progressMeans (now (rec .entry)) progress))) v) ⌝ }
+{
+    if !progress_good(rec, progress, settings) {
         return true;
     }
     if v == 0 {
         return true;
     }
-    u64_at(inner, 8) != v - 1
+    progress_view(rec, progress) != v - 1
 }
 
 // 10 and 11 of kind 7, by the high vote.
@@ -257,7 +286,8 @@ fn proposal_early(c: Counters, mem: &[u8], rec: &[u8]) -> u64
     if View::LAST <= v {
         return 8;
     }
-    if progress_bad(&rec[88..], settings(mem), v) {
+    let inner = progress(rec, 88);
+    if progress_bad(rec, inner, settings(mem), v) {
         return 9;
     }
     voted(c, v, name_at(rec, 16))
@@ -295,10 +325,7 @@ pub fn early(c: Counters, mem: &[u8], rec: &[u8]) -> u64
     if kind == 8 {
         return block_early(mem, rec);
     }
-    if kind == 3 {
-        return block_certificate_early(c, mem, rec);
-    }
-    timeout_certificate_early(c, mem, rec)
+    certificate_early(c, mem, rec)
 }
 
 // 15: propose out of turn.

@@ -11,7 +11,7 @@ ghost use mathlib.Core.Bool.{false};
 ghost use Prim.Native.Nat.{_+_, _*_, _≤_};
 ghost use lib.ListN.{length, drop};
 ghost use Rattle.wire.specs.Fields.{cut, progressOf};
-ghost use Rattle.wire.specs.Shape.{any, frameBad, timeoutsLength, certificateLength, progressLength, kindLength, badLength, carriedKindBad, slotKindBad, certificateKindBad, badKind, beyond, halfEmpty, timeoutValueBad, slotValueBad, slotsValueBad, certificateValueBad, progressValueBad, proposalValueBad, badValue, shapeOf, releaseShape};
+ghost use Rattle.wire.specs.Shape.{any, frameBad, timeoutsLength, certificateLength, progressLength, kindLength, badLength, carriedKindBad, slotKindBad, certificateKindBad, badKind, beyond, halfEmpty, timeoutValueBad, slotValueBad, slotsValueBad, certificateValueBad, progressValueBad, proposalValueBad, badValue, shapeOf};
 ghost use Rattle.shape.specs.Verdict.{verdict};
 
 // What the place says of a slice.
@@ -343,22 +343,6 @@ pub fn check(rec: &[u8], n: u64) -> Verdict
     }
     if bad_value(rec, n) {
         return Verdict::BadValue;
-    }
-    Verdict::Whole
-}
-
-// The same for a release, which only the host reads.
-pub fn check_release(rec: &[u8]) -> Verdict
-    ensures { λ r. ⌜ verdict r ≡ releaseShape (now (rec .entry)) ⌝ }
-{
-    if frame_bad(rec) {
-        return Verdict::BadLength;
-    }
-    if u16_at(rec, 4) != 9 {
-        return Verdict::BadKind;
-    }
-    if rec.len() != 56 {
-        return Verdict::BadLength;
     }
     Verdict::Whole
 }

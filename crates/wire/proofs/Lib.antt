@@ -10,3 +10,4 @@ pub mod Accepted
 pub mod ReadBack
 pub mod Turns
 pub mod Frames
+pub mod Certificates

@@ -9,7 +9,7 @@ use lib.ListN.{length, drop}
 use Rattle.settings.specs.Answer.{accepts, _⇒_}
 use Rattle.codec.specs.Bytes.{IsBytes}
 use Rattle.wire.specs.Fields.{releaseLength, kindOf, senderOf, viewOf, nameOf, releaseHeightOf}
-use Rattle.wire.specs.Content.{certificateOf, Content, release, content, decode, progressAt, progressMeans}
+use Rattle.wire.specs.Content.{certificateOf, Content, release, content, decode}
 use Rattle.wire.specs.Encode.{encode}
 use Rattle.wire.specs.Shape.{frameBad, shapeRules, shapeOf, releaseShape}
 use Rattle.wire.specs.Fit.{Fits, Proper}
@@ -79,12 +79,3 @@ release-read r b h =
     let x = release (senderOf r) (viewOf r) (nameOf r) (releaseHeightOf r) in
     let c : content r ≡ x = rw e in
     ap encode c ∙ encode-stands r x b (stands-alone r x refl l (f .1 ∙ l, (e, (refl, (refl, (refl, (refl, tt)))))))
-
--- ---- the progress certificate of a proposal
-pub progress-means : (r : List ℕ) (at : ℕ) → progressMeans r (progressAt r at) ≡ certificateOf (drop at r)
-unfolding progressMeans progressAt certificateOf
-progress-means r at = go (eqb (kindOf (drop at r)) 3) refl
-  where
-    go : (t : Bool) → eqb (kindOf (drop at r)) 3 ≡ t → progressMeans r (progressAt r at) ≡ certificateOf (drop at r)
-    go true e = rw e
-    go false e = rw e

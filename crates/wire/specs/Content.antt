@@ -1,9 +1,9 @@
 -- What a record says (01: Records). `content` reads any bytes; it means something where the place "shape" accepts them. Assumes nothing.
-use Prim.Native.Nat.{ℕ, _+_}
+use Prim.Native.Nat.{ℕ, _+_, _*_, _≤_}
 use mathlib.Core.Bool.{Bool, cond}
 use mathlib.Core.List.{List, [], _∷_, map}
 use lib.Dec.{eqb}
-use lib.ListN.{drop}
+use lib.ListN.{length, drop}
 use Rattle.settings.specs.Answer.{Answer, judge}
 use Rattle.codec.specs.Bytes.{part}
 use Rattle.codec.specs.Names.{nameLength}
@@ -14,7 +14,7 @@ use Rattle.wire.specs.declared.Child.{Child}
 use Rattle.wire.specs.declared.Release.{Release}
 use Rattle.wire.specs.declared.Progress.{Progress}
 use Rattle.wire.specs.declared.Progress.the-variants.{Block, Timeouts}
-use Rattle.wire.specs.Fields.{numberAt, kindOf, senderOf, viewOf, nameOf, signersOf, highViewOf, highNameOf, carriedKindOf, carriedViewOf, carriedNameOf, carriedSignersOf, countOf, parentOf, heightOf, progressOf, blockNameOf, blockParentOf, blockHeightOf, releaseHeightOf, slots}
+use Rattle.wire.specs.Fields.{numberAt, kindOf, senderOf, viewOf, nameOf, signersOf, highViewOf, highNameOf, carriedKindOf, carriedViewOf, carriedNameOf, carriedSignersOf, countOf, parentOf, heightOf, progressOf, blockNameOf, blockParentOf, blockHeightOf, releaseHeightOf, timeoutsHead, timeoutLength, cut, slots}
 use Rattle.wire.specs.Shape.{shapeRules}
 
 -- a view and the name behind it
@@ -105,7 +105,13 @@ progressAt r at =
     (Block (record { place = at; view = record { 0 = viewOf (drop at r) }; signers = signersOf (drop at r) }))
     (Timeouts (record { place = at; count = countOf (drop at r) }))
 
--- what the enum's cases mean: the certificate that stands at that place
+-- what the enum's cases mean, over the bytes in which their places lie: kind 3 with that view and those signers, the name beside them in the bytes;
+-- kind 6 with so many timeouts, which stand behind its head
 unfoldable pub progressMeans : List ℕ → Progress → Certificate
 progressMeans r (Block b) = byBlock (b .view .0) (nameOf (drop (b .place) r)) (b .signers)
-progressMeans r (Timeouts t) = byTimeouts (viewOf (drop (t .place) r)) (map timeoutOf (slots (drop (t .place) r)))
+progressMeans r (Timeouts t) = byTimeouts (viewOf (drop (t .place) r)) (map timeoutOf (cut (t .count) (drop timeoutsHead (drop (t .place) r))))
+
+-- the bytes that its meaning is read from are there: a block certificate's name, a timeout certificate's head and timeouts
+unfoldable pub Within : List ℕ → Progress → Type 0
+Within r (Block b) = b .place + 48 ≤ length r
+Within r (Timeouts t) = t .place + (timeoutsHead + timeoutLength * t .count) ≤ length r

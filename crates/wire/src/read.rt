@@ -3,7 +3,6 @@ use crate::BlockCertificate;
 use crate::Carried;
 use crate::Child;
 use crate::Progress;
-use crate::Release;
 use crate::Timeout;
 use crate::TimeoutCertificate;
 use crate::Vote;
@@ -15,22 +14,8 @@ use settings::View;
 ghost use mathlib.Core.Path.{_≡_};
 ghost use Prim.Native.Nat.{_+_, _≤_};
 ghost use lib.ListN.{length, drop};
-ghost use Rattle.wire.specs.Fields.{kindOf, senderOf};
-ghost use Rattle.wire.specs.Content.{voteAt, carriedOf, timeoutOf, progressAt, proposedOf, blockOf, releaseOf};
-
-pub fn kind(rec: &[u8]) -> u16
-    requires { ⌜ 8 ≤ length (now rec) ⌝ }
-    ensures { λ r. ⌜ r ≡ kindOf (now (rec .entry)) ⌝ }
-{
-    u16_at(rec, 4)
-}
-
-pub fn sender(rec: &[u8]) -> u16
-    requires { ⌜ 8 ≤ length (now rec) ⌝ }
-    ensures { λ r. ⌜ r ≡ senderOf (now (rec .entry)) ⌝ }
-{
-    u16_at(rec, 6)
-}
+ghost use Rattle.wire.specs.Fields.{kindOf};
+ghost use Rattle.wire.specs.Content.{voteAt, carriedOf, timeoutOf, certificateOf, progressAt, progressMeans, proposedOf, blockOf};
 
 // A view and the name behind it.
 pub fn vote(rec: &[u8], at: usize) -> Vote
@@ -71,7 +56,7 @@ pub fn timeout(rec: &[u8]) -> Timeout
 // The progress certificate that begins at a place: in a proposal at 88, in a record of kind 3 or 6 at 0.
 pub fn progress(rec: &[u8], at: usize) -> Progress
     requires { ⌜ (at + 24 ≤ length (now rec)) × (kindOf (drop at (now rec)) ≡ 3 → at + 56 ≤ length (now rec)) ⌝ }
-    ensures { λ r. ⌜ r ≡ progressAt (now (rec .entry)) at ⌝ }
+    ensures { λ r. ⌜ (r ≡ progressAt (now (rec .entry)) at) × (progressMeans (now (rec .entry)) r ≡ certificateOf (drop at (now (rec .entry)))) ⌝ }
 {
     if u16_at(rec, at + 4) == 3 {
         return Progress::Block(BlockCertificate {
@@ -107,16 +92,5 @@ pub fn block(rec: &[u8]) -> Child
         name: name_at(rec, 8),
         parent: name_at(rec, 40),
         height: Height(u64_at(rec, 72)),
-    }
-}
-
-pub fn release(rec: &[u8]) -> Release
-    requires { ⌜ 56 ≤ length (now rec) ⌝ }
-    ensures { λ r. ⌜ r ≡ releaseOf (now (rec .entry)) ⌝ }
-{
-    Release {
-        view: View(u64_at(rec, 8)),
-        name: name_at(rec, 16),
-        height: Height(u64_at(rec, 48)),
     }
 }

@@ -14,7 +14,7 @@ ghost use mathlib.Core.Path.{_≡_};
 ghost use Prim.Native.Nat.{_+_, _-_, _^_, _≤_, _<_};
 ghost use lib.ListN.{length};
 ghost use Rattle.codec.specs.Bytes.{patch};
-ghost use Rattle.wire.specs.Encode.{headerBytes, voteBytes, blockCertificateBytes, timeoutHead, timeoutBytes, timeoutsHeadBytes, timeoutsBytes, proposalHeadBytes, proposalBytes, blockBytes, releaseBytes};
+ghost use Rattle.wire.specs.Encode.{headerBytes, voteBytes, blockCertificateBytes, timeoutHead, timeoutBytes, timeoutsHeadBytes, proposalHeadBytes, proposalBytes, releaseBytes};
 
 fn put_header(out: &mut [u8], at: usize, size: u32, kind: u16, sender: u16)
     requires { ⌜ at + 8 ≤ length (now out) ⌝ }
@@ -45,18 +45,6 @@ pub fn put_block_certificate(out: &mut [u8], at: usize, sender: u16, vote: Vote,
     put_u64(out, at + 8, vote.view.0);
     put_name(out, at + 16, name);
     put_u64(out, at + 48, signers);
-}
-
-pub fn put_block(out: &mut [u8], at: usize, sender: u16, child: Child)
-    requires { ⌜ at + 80 ≤ length (now out) ⌝ }
-    ensures { λ _. ⌜ now (out .exit) ≡ patch (now (out .entry)) at (blockBytes sender (child .name) (child .parent) (child .height .0)) ⌝ }
-{
-    let name = child.name;
-    let parent = child.parent;
-    put_header(out, at, 80, 8, sender);
-    put_name(out, at + 8, name);
-    put_name(out, at + 40, parent);
-    put_u64(out, at + 72, child.height.0);
 }
 
 pub fn put_release(out: &mut [u8], at: usize, sender: u16, release: Release)
@@ -106,15 +94,6 @@ pub fn put_timeouts_head(out: &mut [u8], at: usize, sender: u16, view: View, siz
     put_u64(out, at + 8, view.0);
     put_le(out, at + 16, 2, (size / 112) as u64);
     put_le(out, at + 18, 6, 0);
-}
-
-// A timeout certificate: its timeouts come in as bytes, one after another.
-pub fn put_timeouts(out: &mut [u8], at: usize, sender: u16, view: View, row: &[u8])
-    requires { ⌜ (at + (24 + length (now row)) ≤ length (now out)) × (length (now row) < 2 ^ 32 - 24) ⌝ }
-    ensures { λ _. ⌜ now (out .exit) ≡ patch (now (out .entry)) at (timeoutsBytes sender (view .0) (now (row .entry))) ⌝ }
-{
-    put_timeouts_head(out, at, sender, view, row.len());
-    put(out, at + 24, row);
 }
 
 // A proposal before its progress certificate, which has size bytes.

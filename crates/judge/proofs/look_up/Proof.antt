@@ -1,10 +1,8 @@
 use mathlib.Core.Path.{_≡_, sym, _∙_}
-use native.Mathlib.Nat.{le-of-eq}
-use Rattle.codec.proofs.Laws.{part-rest}
-use Rattle.wire.specs.Fields.{kindOf, progressOf}
+use Rattle.wire.specs.Fields.{kindOf}
 use Rattle.wire.specs.Content.{content}
-use Rattle.wire.proofs.Frames.{whole-header, whole-block, whole-proposal, inner-length, inner-kind, certificate-block, certificate-timeouts, certificate-other}
-use Rattle.refusals.proofs.Progress.{certificate-long}
+use Rattle.wire.proofs.Frames.{whole-header, whole-block, whole-proposal, inner-length, inner-kind}
+use Rattle.wire.proofs.Certificates.{Stands, within, shaped-stands}
 use Rattle.judge.specs.Want.{asked}
 use Rattle.judge.proofs.Wants.{asked-none}
 use borrow.Author.Needs.{needs}
@@ -17,38 +15,36 @@ use Rattle.codec.proofs.num.u16_at.Reads as u16-at-reads
 use Rattle.judge.proofs.names.Reads as names-reads
 use Rattle.judge.proofs.nothing.Reads as nothing-reads
 use Rattle.memory.proofs.settings.Reads as settings-reads
+use Rattle.wire.proofs.read.progress.Reads as progress-reads
 
 seven : (c : tie.Then1) → kindOf (c .before .before .before .before .args .rec .now) ≡ 7
 seven c = sym (c .before .u16-at .ensures) ∙ c .if1 .taken
 
+-- the progress certificate of a proposal stands behind its head
+inner : (c : tie.Then1) → Stands (c .before .before .before .before .args .rec .now) 88
+inner c = let r = c .before .before .before .before .args .rec .now in shaped-stands r 88 (inner-length r (c .before .before .before .before .pre .1 .1 .0) (seven c)) (inner-kind r (c .before .before .before .before .pre .1 .1 .1) (seven c))
+
 u16-at-requires : tie.Need-u16-at-requires
 u16-at-requires c κs = omega (arith, whole-header _ (c .before .before .pre .1 .1 .0))
 
-sub-safe-certificate : tie.Need-sub-safe-certificate
-sub-safe-certificate c = omega (arith, whole-proposal _ (c .before .before .before .before .pre .1 .1 .0) (seven c))
-
-part-safe-certificate-start : tie.Need-part-safe-certificate-start
-part-safe-certificate-start c = omega (arith, whole-proposal _ (c .before .before .before .before .pre .1 .1 .0) (seven c))
-
-part-safe-certificate-end : tie.Need-part-safe-certificate-end
-part-safe-certificate-end c = search needs
+progress-requires : tie.Need-progress-requires
+progress-requires c κs = let S = inner c in (S .head, S .block)
 
 settings-requires : tie.Need-settings-requires
 settings-requires c κs = search needs
 
 safe-certificate-requires : tie.Need-safe-certificate-requires
-safe-certificate-requires c κs = let r = c .before .before .before .before .before .before .args .rec .now in let e = part-rest r 88 in let l = inner-length r (c .before .before .before .before .before .before .pre .1 .1 .0) (seven (c .before .before)) in let k = inner-kind r (c .before .before .before .before .before .before .pre .1 .1 .1) (seven (c .before .before)) in
-    (rw (c .settings .ensures) (c .before .before .before .before .before .before .pre .1 .0), (rw e (certificate-long (progressOf r) l k), (rw e (λ q. le-of-eq (sym (certificate-block (progressOf r) l q))), rw e (λ q. le-of-eq (sym (certificate-timeouts (progressOf r) l (certificate-other (progressOf r) k q)))))))
+safe-certificate-requires c κs = (rw (c .settings .ensures) (c .before .before .before .before .before .before .pre .1 .0), within (c .before .before .before .before .before .before .args .rec .now) 88 (inner (c .before .before)) (c .before .progress .ensures .0))
 
 name-at-requires : tie.Need-name-at-requires
-name-at-requires c κs = omega (arith, whole-proposal _ (c .before .before .before .before .before .before .before .before .pre .1 .1 .0) (seven (c .before .before .before .before)))
+name-at-requires c κs = omega (arith, inner (c .before .before .before .before) .head)
 
 names-requires : tie.Need-names-requires
 names-requires c κs = search needs
 
 returns : tie.Need-returns
 unfolding content asked
-returns c = rw (← c .before .before .before .before .before .before .before .u16-at .ensures, c .before .before .before .before .before .before .if1 .taken) (rw (c .before .name-at .ensures, c .before .before .before .safe-certificate .ensures, part-rest, c .before .before .before .before .settings .ensures) at (c .names .ensures))
+returns c = rw (← c .before .before .before .before .before .before .before .u16-at .ensures, c .before .before .before .before .before .before .if1 .taken) (rw (c .before .name-at .ensures, c .before .before .before .safe-certificate .ensures, c .before .before .before .before .before .progress .ensures .1, c .before .before .before .before .settings .ensures) at (c .names .ensures))
 
 name-at-requires-2 : tie.Need-name-at-requires-2
 name-at-requires-2 c κs = omega (arith, whole-block _ (c .before .before .before .before .before .pre .1 .1 .0) (sym (c .before .before .u16-at .ensures) ∙ c .if2 .taken))
@@ -74,9 +70,7 @@ look-up-spec =
     tie.close
     (tie.spec
     u16-at-requires
-    sub-safe-certificate
-    part-safe-certificate-start
-    part-safe-certificate-end
+    progress-requires
     settings-requires
     safe-certificate-requires
     name-at-requires

@@ -2,14 +2,14 @@ use mathlib.Core.Path.{ap, _∙_}
 use lib.ListN.{length}
 use Rattle.codec.proofs.Laws.{length-patch}
 use Rattle.act.proofs.Steps.{ready-facts}
-use Rattle.act.proofs.Advancing.{form-asks, below-does, put-in-output, came-does}
+use Rattle.act.proofs.Advancing.{form-stands, below-does, put-in-output, came-does}
 use borrow.Author.Needs.{needs}
 use native.Mathlib.Omega.{arith}
 use Rattle.act.proofs.progress.progress.Statement.{statement}
 use Rattle.act.proofs.progress.progress.Tie as tie
 
 u64-at-requires : tie.Need-u64-at-requires
-u64-at-requires c κs = omega (arith, form-asks _ (c .before .before .before .before .args .rec .now) (c .before .before .before .before .pre .1 .form) .0)
+u64-at-requires c κs = omega (arith, form-stands _ (c .before .before .before .before .args .rec .now) (c .before .before .before .before .pre .1 .form) .head)
 
 adopt-safe-requires : tie.Need-adopt-safe-requires
 adopt-safe-requires c κs = (c .before .before .before .before .before .before .before .before .pre .0 .long, (ready-facts _ _ _ (c .before .before .before .before .before .before .before .before .pre .0) .few, c .before .before .before .before .before .before .before .before .pre .1 .form))
@@ -24,13 +24,13 @@ put-requires : tie.Need-put-requires
 put-requires c κs = omega (arith, c .before .before .before .before .before .before .before .before .pre .0 .room)
 
 add-put-u16 : tie.Need-add-put-u16
-add-put-u16 c = omega (arith, c .before .before .before .before .before .before .before .before .before .before .before .before .pre .0 .room, c .before .before .before .before .before .before .before .before .before .before .before .before .good .1 .0 .0, form-asks _ (c .before .before .before .before .before .before .before .before .before .before .before .before .args .rec .now) (c .before .before .before .before .before .before .before .before .before .before .before .before .pre .1 .form) .0)
+add-put-u16 c = omega (arith, c .before .before .before .before .before .before .before .before .before .before .before .before .pre .0 .room, c .before .before .before .before .before .before .before .before .before .before .before .before .good .1 .0 .0, form-stands _ (c .before .before .before .before .before .before .before .before .before .before .before .before .args .rec .now) (c .before .before .before .before .before .before .before .before .before .before .before .before .pre .1 .form) .head)
 
 own-requires : tie.Need-own-requires
 own-requires c κs = omega (arith, c .before .before .before .before .before .before .before .before .before .before .before .before .before .pre .0 .long)
 
 put-u16-requires : tie.Need-put-u16-requires
-put-u16-requires c κs = omega (arith, c .before .before .before .before .before .before .before .before .before .before .before .before .before .before .pre .0 .room, form-asks _ (c .before .before .before .before .before .before .before .before .before .before .before .before .before .before .args .rec .now) (c .before .before .before .before .before .before .before .before .before .before .before .before .before .before .pre .1 .form) .0, ap length (c .before .before .before .before .before .put .ensures) ∙ length-patch _ _ _)
+put-u16-requires c κs = omega (arith, c .before .before .before .before .before .before .before .before .before .before .before .before .before .before .pre .0 .room, form-stands _ (c .before .before .before .before .before .before .before .before .before .before .before .before .before .before .args .rec .now) (c .before .before .before .before .before .before .before .before .before .before .before .before .before .before .pre .1 .form) .head, ap length (c .before .before .before .before .before .put .ensures) ∙ length-patch _ _ _)
 
 act-on-requires : tie.Need-act-on-requires
 act-on-requires c κs = put-in-output (c .before .before .before .before .before .before .before .before .before .before .before .before .before .before .before .before .before .before .before .args .d) _ _ (c .before .before .before .before .before .before .before .before .before .before .before .before .before .before .before .before .before .before .before .args .rec .now) (c .before .before .before .before .before .before .before .before .before .before .before .before .before .before .before .before .before .before .before .pre .0) (c .before .before .before .before .before .before .before .before .before .before .before .before .before .before .before .before .before .before .before .pre .1) (c .before .before .before .before .before .before .before .before .before .before .before .before .before .before .u64-at .ensures) (c .before .before .before .before .before .before .before .before .before .before .before .before .if1 .left) (c .before .before .before .before .before .before .before .before .before .before .put .ensures) (c .before .before .before .before .before .own .ensures) (c .before .before .before .before .put-u16 .ensures)

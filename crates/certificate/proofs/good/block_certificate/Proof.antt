@@ -1,20 +1,21 @@
-use Rattle.wire.specs.Content.{voteAt}
-use Rattle.certificate.specs.Rank.{blockCertificateOf}
+use Rattle.codec.proofs.Laws.{part-drop}
+use Rattle.wire.specs.Content.{Within}
 use borrow.Author.Needs.{needs}
+use native.Mathlib.Omega.{arith}
 use Rattle.certificate.proofs.good.block_certificate.Statement.{statement}
 use Rattle.certificate.proofs.good.block_certificate.Tie as tie
-use Rattle.codec.proofs.num.u64_at.Reads as u64-at-reads
-use Rattle.wire.proofs.read.vote.Reads as vote-reads
+use Rattle.codec.proofs.name_at.Reads as name-at-reads
 
-vote-requires : tie.Need-vote-requires
-vote-requires c κs = search needs
+add-name-at : tie.Need-add-name-at
+unfolding Within
+add-name-at c = omega (arith, c .before .before .pre)
 
-u64-at-requires : tie.Need-u64-at-requires
-u64-at-requires c κs = search needs
+name-at-requires : tie.Need-name-at-requires
+unfolding Within
+name-at-requires c κs = omega (arith, c .before .before .pre)
 
 returns : tie.Need-returns
-unfolding blockCertificateOf voteAt
-returns c = rw (c .before .before .before .vote .ensures, c .u64-at .ensures)
+returns c = rw (c .name-at .ensures, part-drop)
 
 pub block-certificate-spec : {M : Type 1} → statement M
-block-certificate-spec = tie.close (tie.spec vote-requires u64-at-requires returns)
+block-certificate-spec = tie.close (tie.spec add-name-at name-at-requires returns)

@@ -1,19 +1,18 @@
 use mathlib.Core.Path.{_≡_, sym, _∙_}
 use mathlib.Core.Bool.{false}
-use Rattle.wire.specs.Fields.{kindOf}
+use borrow.Author.Tests.{ne-eqb}
 use Rattle.wire.specs.Shape.{certificateLength, certificateKindBad}
 use Rattle.wire.specs.Content.{content}
-use Rattle.wire.proofs.Frames.{whole-header, whole-vote, whole-commit, whole-timeout, whole-proposal, inner-length, whole-certificate, inner-kind, certificate-kind, certificate-block, certificate-other}
+use Rattle.wire.proofs.Frames.{whole-header, whole-vote, whole-commit, whole-timeout, whole-proposal, inner-length, whole-certificate, inner-kind, certificate-kind, certificate-other}
 use Rattle.refusals.specs.Early.{earlyRules}
 use native.Mathlib.Omega.{arith}
 use Rattle.refusals.proofs.early.early.Statement.{statement}
 use Rattle.refusals.proofs.early.early.Tie as tie
 use Rattle.codec.proofs.num.u16_at.Reads as u16-at-reads
-use Rattle.refusals.proofs.early.block_certificate_early.Reads as block-certificate-early-reads
+use Rattle.refusals.proofs.early.certificate_early.Reads as certificate-early-reads
 use Rattle.refusals.proofs.early.block_early.Reads as block-early-reads
 use Rattle.refusals.proofs.early.commit_early.Reads as commit-early-reads
 use Rattle.refusals.proofs.early.proposal_early.Reads as proposal-early-reads
-use Rattle.refusals.proofs.early.timeout_certificate_early.Reads as timeout-certificate-early-reads
 use Rattle.refusals.proofs.early.timeout_early.Reads as timeout-early-reads
 use Rattle.refusals.proofs.early.vote_early.Reads as vote-early-reads
 
@@ -25,8 +24,12 @@ is-certificate c =
       certificate-kind _ (c .before .before .before .before .before .before .before .before .pre .1 .1 .1) (λ k. c .before .before .before .before .if1 .left (e ∙ k)) (λ k. c .before .before .before .if2 .left (e ∙ k)) (λ k. c .before .before .if3 .left (e ∙ k)) (λ k. c .before .if4 .left (e ∙ k)) (λ k. c .if5 .left (e ∙ k)),
     )
 
-six : (c : tie.Else6) → kindOf (c .before .before .before .before .before .before .before .before .before .args .rec .now) ≡ 6
-six c = certificate-other _ (is-certificate (c .before) .1) (λ k. c .if6 .left (c .before .before .before .before .before .before .u16-at .ensures ∙ k))
+-- and so none of kind 9, which no replica takes
+no-release : (c : tie.Else5) → c .before .before .before .before .before .u16-at .result ≡ 9 → ⊥
+no-release c k =
+    let e = c .before .before .before .before .before .u16-at .ensures in
+    let six = certificate-other _ (is-certificate c .1) (λ z. omega (arith, e, k, z)) in
+    omega (arith, e, k, six)
 
 u16-at-requires : tie.Need-u16-at-requires
 u16-at-requires c κs = omega (arith, whole-header _ (c .before .before .pre .1 .1 .0))
@@ -66,19 +69,12 @@ returns-5 : tie.Need-returns-5
 unfolding content earlyRules
 returns-5 c = rw (← c .before .before .before .before .before .before .u16-at .ensures, c .before .if5 .taken) (c .block-early .ensures)
 
-block-certificate-early-requires : tie.Need-block-certificate-early-requires
-block-certificate-early-requires c κs = let k = sym (c .before .before .before .before .before .before .u16-at .ensures) ∙ c .if6 .taken in (omega (arith, c .before .before .before .before .before .before .before .before .before .pre .0), (omega (arith, certificate-block _ (is-certificate (c .before) .0) k), k))
+certificate-early-requires : tie.Need-certificate-early-requires
+certificate-early-requires c κs = (omega (arith, c .before .before .before .before .before .before .before .before .pre .0), is-certificate c)
 
 returns-6 : tie.Need-returns-6
 unfolding content earlyRules
-returns-6 c = rw (← c .before .before .before .before .before .before .before .u16-at .ensures, c .before .if6 .taken) (c .block-certificate-early .ensures)
-
-timeout-certificate-early-requires : tie.Need-timeout-certificate-early-requires
-timeout-certificate-early-requires c κs = (omega (arith, c .before .before .before .before .before .before .before .before .before .pre .0), (whole-header _ (c .before .before .before .before .before .before .before .before .before .pre .1 .1 .0), (is-certificate (c .before) .0, (is-certificate (c .before) .1, λ k. c .if6 .left (c .before .before .before .before .before .before .u16-at .ensures ∙ k)))))
-
-returns-7 : tie.Need-returns-7
-unfolding content earlyRules
-returns-7 c = rw (six (c .before)) (c .timeout-certificate-early .ensures)
+returns-6 c = rw (← c .before .before .before .before .before .before .u16-at .ensures, ne-eqb _ _ (c .before .before .before .before .before .if1 .left), ne-eqb _ _ (c .before .before .before .before .if2 .left), ne-eqb _ _ (c .before .before .before .if3 .left), ne-eqb _ _ (c .before .before .if4 .left), ne-eqb _ _ (c .before .if5 .left), ne-eqb _ _ (no-release (c .before))) (c .certificate-early .ensures)
 
 pub early-spec : {M : Type 1} → statement M
 early-spec =
@@ -95,7 +91,5 @@ early-spec =
     returns-4
     block-early-requires
     returns-5
-    block-certificate-early-requires
-    returns-6
-    timeout-certificate-early-requires
-    returns-7)
+    certificate-early-requires
+    returns-6)

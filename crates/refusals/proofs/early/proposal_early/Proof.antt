@@ -1,21 +1,18 @@
 use mathlib.Core.Path.{_≡_, sym, _∙_}
 use mathlib.Core.Bool.{Bool, false, not, _&&_, _||_}
-use mathlib.Core.List.{[]}
 use Prim.Native.Nat.{suc}
 use lib.Dec.{leb, ltb, eqb}
-use lib.ListN.{length-drop}
 use borrow.Author.Tests.{le-leb, lt-leb}
 use Rattle.settings.specs.Quorum.{lastView, replicas}
-use Rattle.codec.proofs.Laws.{part-rest}
 use Rattle.wire.specs.Fields.{senderOf, viewOf, progressOf}
 use Rattle.wire.specs.Content.{certificateOf}
+use Rattle.wire.proofs.Certificates.{within, shaped-stands}
 use Rattle.certificate.specs.Good.{progressGood}
 use Rattle.memory.specs.Layout.{settingsOf, ownOf}
 use Rattle.memory.specs.Window.{leaderOf}
 use Rattle.protocol.specs.Refusals.{viewOfProgress}
-use Rattle.refusals.specs.Early.{lent, proposalRules, votedRules}
+use Rattle.refusals.specs.Early.{proposalRules, votedRules}
 use Rattle.refusals.proofs.Numbers.{skip, hit}
-use Rattle.refusals.proofs.Progress.{progress-view}
 use borrow.Author.Needs.{needs}
 use native.Mathlib.Omega.{arith}
 use Rattle.refusals.proofs.early.proposal_early.Statement.{statement}
@@ -52,7 +49,7 @@ low-is : (c : tie.After-below-view) → c .below-view .result ≡ low (c .before
 low-is c = rw (c .before .before .before .before .u64-at .ensures) at (c .below-view .ensures)
 
 bad-is : (c : tie.After-progress-bad) → c .progress-bad .result ≡ bad (c .before .before .before .before .before .before .before .before .before .before .before .before)
-bad-is c = rw (part-rest, c .before .settings .ensures, c .before .before .before .before .before .before .before .before .before .u64-at .ensures, ← progress-view (lent (c .before .before .before .before .before .before .before .before .before .before .before .before .args .c) (c .before .before .before .before .before .before .before .before .before .before .before .before .args .mem .now) []) (progressOf (c .before .before .before .before .before .before .before .before .before .before .before .before .args .rec .now))) at (c .progress-bad .ensures)
+bad-is c = rw (c .before .before .progress .ensures .1, c .before .settings .ensures, c .before .before .before .before .before .before .before .before .before .u64-at .ensures) at (c .progress-bad .ensures)
 
 below : (c : tie.Else3) → leb lastView (viewOf (c .before .before .before .before .before .before .before .before .before .args .rec .now)) ≡ false
 below c = rw (c .before .before .before .before .before .before .u64-at .ensures) at (lt-leb _ _ (c .if3 .left))
@@ -84,20 +81,14 @@ returns-3 : tie.Need-returns-3
 unfolding proposalRules
 returns-3 c = skip _ _ (sym (party-is (c .before .before .before .before)) ∙ c .before .before .before .if1 .left) (skip _ _ (sym (low-is (c .before .before)) ∙ c .before .if2 .left) (hit _ _ (rw (c .before .before .before .before .before .before .u64-at .ensures) at (le-leb _ _ (c .if3 .taken)))))
 
-sub-progress-bad : tie.Need-sub-progress-bad
-sub-progress-bad c = search needs
-
-part-progress-bad-start : tie.Need-part-progress-bad-start
-part-progress-bad-start c = search needs
-
-part-progress-bad-end : tie.Need-part-progress-bad-end
-part-progress-bad-end c = search needs
+progress-requires : tie.Need-progress-requires
+progress-requires c κs = let S = shaped-stands (c .before .before .before .before .before .before .before .before .before .args .rec .now) 88 (c .before .before .before .before .before .before .before .before .before .pre .1 .1 .0) (c .before .before .before .before .before .before .before .before .before .pre .1 .1 .1) in (S .head, S .block)
 
 settings-requires : tie.Need-settings-requires
 settings-requires c κs = search needs
 
 progress-bad-requires : tie.Need-progress-bad-requires
-progress-bad-requires c κs = let e = part-rest (c .before .before .before .before .before .before .before .before .before .before .before .args .rec .now) 88 in (rw (e, length-drop) (omega (arith, c .before .before .before .before .before .before .before .before .before .before .before .pre .1 .0)), (rw e (c .before .before .before .before .before .before .before .before .before .before .before .pre .1 .1 .0), rw e (c .before .before .before .before .before .before .before .before .before .before .before .pre .1 .1 .1)))
+progress-bad-requires c κs = within (c .before .before .before .before .before .before .before .before .before .before .before .args .rec .now) 88 (shaped-stands (c .before .before .before .before .before .before .before .before .before .before .before .args .rec .now) 88 (c .before .before .before .before .before .before .before .before .before .before .before .pre .1 .1 .0) (c .before .before .before .before .before .before .before .before .before .before .before .pre .1 .1 .1)) (c .before .progress .ensures .0)
 
 returns-4 : tie.Need-returns-4
 unfolding proposalRules
@@ -125,9 +116,7 @@ proposal-early-spec =
     below-view-requires
     returns-2
     returns-3
-    sub-progress-bad
-    part-progress-bad-start
-    part-progress-bad-end
+    progress-requires
     settings-requires
     progress-bad-requires
     returns-4

@@ -4,6 +4,7 @@ use lib.ListN.{drop}
 use Rattle.codec.proofs.Laws.{part-drop}
 use Rattle.wire.specs.Fields.{kindOf}
 use Rattle.wire.specs.Content.{progressAt}
+use Rattle.wire.proofs.Certificates.{read-means}
 use borrow.Author.Needs.{needs}
 use native.Mathlib.Omega.{arith}
 use Rattle.wire.proofs.read.progress.Statement.{statement}
@@ -31,7 +32,7 @@ u64-at-requires-2 c κs = let e : kindOf (drop (c .before .before .before .befor
 
 returns : tie.Need-returns
 unfolding progressAt
-returns c = simp part-drop (rw (← c .before .before .before .u16-at .ensures, c .before .before .if1 .taken, ← c .before .u64-at .ensures, ← c .u64-at2 .ensures))
+returns c = read-means (c .before .before .before .before .before .args .rec .now) (c .before .before .before .before .before .args .at) (simp part-drop (rw (← c .before .before .before .u16-at .ensures, c .before .before .if1 .taken, ← c .before .u64-at .ensures, ← c .u64-at2 .ensures)))
 
 add-u16-at-2 : tie.Need-add-u16-at-2
 add-u16-at-2 c = search needs
@@ -44,7 +45,7 @@ cast-t12 c = search needs
 
 returns-2 : tie.Need-returns-2
 unfolding progressAt
-returns-2 c = simp part-drop (rw (← c .before .before .u16-at .ensures, ne-eqb _ _ (c .before .if1 .left), ← c .u16-at2 .ensures))
+returns-2 c = read-means (c .before .before .before .before .args .rec .now) (c .before .before .before .before .args .at) (simp part-drop (rw (← c .before .before .u16-at .ensures, ne-eqb _ _ (c .before .if1 .left), ← c .u16-at2 .ensures)))
 
 pub progress-spec : {M : Type 1} → statement M
 progress-spec =
