@@ -3,7 +3,7 @@
     'types': {'settings': 'counters', 'wire': 'counters', 'certificate': 'counters', 'act': 'replica', 'perform': 'replica', 'judge': 'replica'},
     'callees': {
         'replica::conclude': {'req': 'yes', 'ens': 'left r {w0} {w2} {w1} ≡ leftBy (turnsOf ({3} .turns) (workOf ({3} .draft) {0} {2} (set {1} ({3} .place) ({3} .block)))) {2}'},
-        'replica::answer': {'ens': 'r ≡ replying {0} {1}'},
+        'replica::answer': {'ens': 'r ≡ replyOf (answerOf {0} {1})'},
     },
     'spec': {
         'mathlib.Core.List': ['List'],
@@ -14,12 +14,12 @@
         'Rattle.protocol.specs.Events': ['onRecord', 'onTimer', 'onPropose'],
         'Rattle.protocol.specs.Rules': ['again as turnsOf'],
         'Rattle.protocol.specs.Calls': ['recordCall', 'timerCall', 'proposeCall', '_then_'],
-        'Rattle.refusals.specs.Number': ['firstOf'],
+        'Rattle.refusals.specs.Number': ['answerOf', 'firstOf'],
         'Rattle.refusals.specs.Early': ['lent'],
         'Rattle.judge.specs.Want': ['recordWant', 'proposeWant'],
         'Rattle.act.specs.Draft': ['workOf', 'left', 'leftBy'],
         'Rattle.perform.specs.Perform': ['Performs', 'timerNumber', 'TimerJudged', 'proposeNumber', 'ProposeFound', 'recordNumber', 'RecordFound'],
-        'Rattle.replica.specs.Reply': ['replying', 'lentTo', 'replied'],
+        'Rattle.replica.specs.Reply': ['replyOf', 'lentTo', 'replied', 'repliedBy'],
         'Rattle.replica.proofs.Calling': ['concludes'],
     },
 }

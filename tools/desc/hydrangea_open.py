@@ -5,15 +5,16 @@
     'params': ['cs', 'm', 'ys', 'lies', 'stops', 'k', 'n', 'me'],
     'callees': {
         'replica::opening': {'ens': '(l : List Block) → length l ≡ {2} → openedOutcome r {w1} l ≡ openingCall (lentTo {0} {1} l) {3} {4} {5} {6} {7}'},
-        'replica::answer': {'ens': 'r ≡ replying {0} {1}'},
+        'replica::answer': {'ens': 'r ≡ replyOf (answerOf {0} {1})'},
     },
     'says': ['(opening-is cs m ys lies stops k n me r0 _ (e0 ys refl) r1 e1)'],
     'spec': {
         'lib.ListN': ['length'],
         'Rattle.blocks.specs.declared.Block': ['Block'],
         'Rattle.protocol.specs.Calls': ['openingCall'],
+        'Rattle.refusals.specs.Number': ['answerOf'],
         'Rattle.replica.specs.Openings': ['openedOutcome'],
-        'Rattle.replica.specs.Reply': ['replying', 'lentTo', 'replied'],
+        'Rattle.replica.specs.Reply': ['replyOf', 'lentTo', 'replied', 'repliedBy'],
         'Rattle.replica.proofs.Openings': ['opening-is'],
     },
 }

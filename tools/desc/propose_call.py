@@ -5,13 +5,13 @@
     'types': {'settings': 'counters', 'wire': 'counters'},
     'params': ['cs', 'm', 'ys', 'out', 'go', 'nm', 'ans'],
     'callees': {
-        'replica::hydrangea_propose': {'ens': 'replied r {w0} {w1} {w2} {w3} ≡ proposeCall (lentTo {0} {1} {2}) {3} ({4} .bytes)'},
+        'replica::hydrangea_propose': {'ens': 'replied r {w0} {w1} {w2} {w3} ≡ repliedBy (proposeCall (lentTo {0} {1} {2}) {3} ({4} .bytes))'},
         'run::refusal_of': {'ens': 'r ≡ {0} .refusal'},
     },
     'says': ['(asked-yes (is-true go yes0) (made-by r1 r0 e1 e0))', '(asked-no (is-false go no0))'],
     'spec': {
         'Rattle.protocol.specs.Calls': ['proposeCall'],
-        'Rattle.replica.specs.Reply': ['lentTo', 'replied'],
+        'Rattle.replica.specs.Reply': ['lentTo', 'replied', 'repliedBy'],
         'Rattle.run.proofs.Moves': ['made-by', 'asked-yes', 'asked-no'],
         'Rattle.blocks.proofs.Ancestry': ['is-true', 'is-false'],
     },

@@ -16,7 +16,7 @@ use Rattle.protocol.specs.Refusals.{storeLength, regionRules, timerRules}
 use Rattle.protocol.specs.Events.{onRecord, onTimer, onPropose}
 use Rattle.protocol.specs.Rules.{again}
 use Rattle.protocol.specs.Calls.{Outcome, recordCall, timerCall, proposeCall, _then_}
-use Rattle.refusals.specs.Number.{firstOf}
+use Rattle.refusals.specs.Number.{answerOf, firstOf}
 use Rattle.refusals.specs.Early.{lent}
 use Rattle.judge.specs.declared.Want.{Want}
 use Rattle.act.specs.declared.Draft.{Draft}
@@ -26,7 +26,17 @@ use Rattle.perform.specs.declared.Done.{Done}
 use Rattle.perform.specs.Perform.{Performs, timerNumber, TimerJudged, proposeNumber, ProposeFound, recordNumber, RecordFound}
 use Rattle.perform.proofs.Calls.{record-outcome, propose-outcome, timer-outcome}
 use Rattle.replica.specs.declared.Reply.{Reply}
-use Rattle.replica.specs.Reply.{replying, lentTo, replied, Concludes}
+use Rattle.replica.specs.Reply.{replyOf, lentTo, replied, repliedBy, Concludes}
+
+-- ---- the numbers of a refusal and of acceptance
+pub refused-reply : (k written : ℕ) → (k ≡ 0 → ⊥) → record { refusal = k; written = 0 } ≡ replyOf (answerOf k written)
+unfolding replyOf answerOf
+refused-reply zero written h = absurd (h refl)
+refused-reply (suc k) written h = refl
+
+pub accepted-reply : (k written : ℕ) → k ≡ 0 → record { refusal = 0; written = written } ≡ replyOf (answerOf k written)
+unfolding replyOf answerOf
+accepted-reply k written e = rw e
 
 -- accepted or refused, rule D may be run as often as is said
 pub concludes : {judged : Work → ℕ} {f : Work → Work} {given : Work → Type 0} {c : Counters} {m o : List ℕ} {e : Done} {m′ o′ : List ℕ} (s : List Block)
@@ -56,21 +66,22 @@ timer-judged room v k W e = e
 
 -- ---- each call, from what its steps leave
 module _ (c : Counters) (m o : List ℕ) (s : List Block) (short : length s < 2 ^ 64) (e : Done) (m′ o′ : List ℕ) (d : Draft) (m₂ o₂ : List ℕ) (s₂ : List Block)
-    (turned : left d m₂ o₂ s₂ ≡ leftBy (again (e .turns) (workOf (e .draft) m′ o′ (set s (e .place) (e .block)))) o′) (r : Reply) (said : r ≡ replying (e .refusal) (d .at)) where
-  answers : (x : Outcome) → x ≡ replied (replying (e .refusal) (d .at)) (d .counters) m₂ s₂ o₂ → replied r (d .counters) m₂ s₂ o₂ ≡ x
-  answers x y = rw said (sym y)
+    (turned : left d m₂ o₂ s₂ ≡ leftBy (again (e .turns) (workOf (e .draft) m′ o′ (set s (e .place) (e .block)))) o′) (r : Reply) (said : r ≡ replyOf (answerOf (e .refusal) (d .at))) where
+  answers : (x : Outcome) → x ≡ record { reply = answerOf (e .refusal) (d .at); counters = d .counters; memory = m₂; store = s₂; output = o₂ }
+      → replied r (d .counters) m₂ s₂ o₂ ≡ repliedBy x
+  answers x y = rw said (ap repliedBy (sym y))
 
   pub record-is : (b : List ℕ) (w : Want) (found under : Found) → RecordFound (length o) b w found under (lent c m s)
       → Performs (recordNumber (length o) b) (onRecord b (content b)) (RecordFound (length o) b w found under) c m o e m′ o′
-      → replied r (d .counters) m₂ s₂ o₂ ≡ recordCall (lentTo c m s) o b
+      → replied r (d .counters) m₂ s₂ o₂ ≡ repliedBy (recordCall (lentTo c m s) o b)
   record-is b w found under g p = answers _ (record-outcome (lentTo c m s) o short e m′ o′ b w found under g p turned)
 
   pub propose-is : (x : List ℕ) (w : Want) (found under : Found) → ProposeFound (length o) x w found under (lent c m s)
       → Performs (proposeNumber (length o) x) (onPropose x) (ProposeFound (length o) x w found under) c m o e m′ o′
-      → replied r (d .counters) m₂ s₂ o₂ ≡ proposeCall (lentTo c m s) o x
+      → replied r (d .counters) m₂ s₂ o₂ ≡ repliedBy (proposeCall (lentTo c m s) o x)
   propose-is x w found under g p = answers _ (propose-outcome (lentTo c m s) o short e m′ o′ x w found under g p turned)
 
   pub timer-is : (v k : ℕ) → TimerJudged (length o) v k (lent c m s)
       → Performs (timerNumber (length o) v) (onTimer v) (TimerJudged (length o) v k) c m o e m′ o′
-      → replied r (d .counters) m₂ s₂ o₂ ≡ timerCall (lentTo c m s) o v
+      → replied r (d .counters) m₂ s₂ o₂ ≡ repliedBy (timerCall (lentTo c m s) o v)
   timer-is v k g p = answers _ (timer-outcome (lentTo c m s) o short e m′ o′ v k g p turned)

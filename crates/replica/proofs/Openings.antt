@@ -18,9 +18,10 @@ use Rattle.blocks.specs.declared.Block.{Block}
 use Rattle.protocol.specs.Work.{Work}
 use Rattle.protocol.specs.Refusals.{storeLength}
 use Rattle.protocol.specs.Calls.{Replica, Outcome, outcome, openedMemory, openingCore, openingCall}
+use Rattle.refusals.specs.Number.{answerOf}
 use Rattle.replica.specs.declared.Opened.{Opened}
 use Rattle.replica.specs.declared.Reply.{Reply}
-use Rattle.replica.specs.Reply.{replying, lentTo, replied}
+use Rattle.replica.specs.Reply.{replyOf, lentTo, replied, repliedBy}
 use Rattle.replica.specs.Openings.{openedOutcome, lengthRules, admitted}
 
 -- ---- the lengths
@@ -97,5 +98,5 @@ own-small f c k n own s e =
 
 -- the call, from what its steps leave
 pub opening-is : (c : Counters) (m : List ℕ) (l : List Block) (f b k n own : ℕ) (e : Opened) (m′ : List ℕ) → openedOutcome e m′ l ≡ openingCall (lentTo c m l) f b k n own
-    → (r : Reply) → r ≡ replying (e .refusal) 0 → replied r (e .counters) m′ l [] ≡ openingCall (lentTo c m l) f b k n own
-opening-is c m l f b k n own e m′ x r said = rw said x
+    → (r : Reply) → r ≡ replyOf (answerOf (e .refusal) 0) → replied r (e .counters) m′ l [] ≡ repliedBy (openingCall (lentTo c m l) f b k n own)
+opening-is c m l f b k n own e m′ x r said = rw said (ap repliedBy x)

@@ -23,10 +23,11 @@ ghost use Rattle.memory.specs.Layout.{blockCountOf};
 ghost use Rattle.protocol.specs.Refusals.{storeLength};
 ghost use Rattle.protocol.specs.Rules.{again};
 ghost use Rattle.protocol.specs.Calls.{recordCall, timerCall, proposeCall, openingCall};
+ghost use Rattle.refusals.specs.Number.{answerOf};
 ghost use Rattle.act.specs.Draft.{workOf, left, leftBy};
 ghost use Rattle.blocks.specs.declared.Block.{Block};
 ghost use Rattle.replica.specs.Openings.{openedOutcome, admitted};
-ghost use Rattle.replica.specs.Reply.{Concludes, replying, lentTo, replied};
+ghost use Rattle.replica.specs.Reply.{Concludes, replyOf, lentTo, replied, repliedBy};
 
 // 01's number of the refusal and no bytes; or 0, and the number of bytes written.
 #[repr(C)]
@@ -41,10 +42,20 @@ pub struct Name {
     pub bytes: [u8; 32],
 }
 
+// A refused call has written nothing.
 fn answer(refusal: u64, written: usize) -> Reply
-    ensures { λ r. ⌜ r ≡ replying refusal written ⌝ }
+    ensures { λ r. ⌜ r ≡ replyOf (answerOf refusal written) ⌝ }
 {
-    Reply { refusal, written }
+    if refusal != 0 {
+        return Reply {
+            refusal,
+            written: 0,
+        };
+    }
+    Reply {
+        refusal: 0,
+        written,
+    }
 }
 
 // The block is filled in, and rule D is run.
@@ -67,7 +78,7 @@ pub extern "C" fn hydrangea_record(
     rec: &[u8],
 ) -> Reply
     ensures { λ r. ⌜ replied r (now (counters .exit)) (now (mem .exit)) (now (store .exit)) (now (out .exit))
-        ≡ recordCall (lentTo (now (counters .entry)) (now (mem .entry)) (now (store .entry))) (now (out .entry)) (now (rec .entry)) ⌝ }
+        ≡ repliedBy (recordCall (lentTo (now (counters .entry)) (now (mem .entry)) (now (store .entry))) (now (out .entry)) (now (rec .entry))) ⌝ }
 {
     let c = *counters;
     let want = judge::record(c, mem, store.len(), out.len(), rec);
@@ -89,7 +100,7 @@ pub extern "C" fn hydrangea_timer(
     view: u64,
 ) -> Reply
     ensures { λ r. ⌜ replied r (now (counters .exit)) (now (mem .exit)) (now (store .exit)) (now (out .exit))
-        ≡ timerCall (lentTo (now (counters .entry)) (now (mem .entry)) (now (store .entry))) (now (out .entry)) view ⌝ }
+        ≡ repliedBy (timerCall (lentTo (now (counters .entry)) (now (mem .entry)) (now (store .entry))) (now (out .entry)) view) ⌝ }
 {
     let c = *counters;
     let number = judge::timer(c, mem, store.len(), out.len(), view);
@@ -109,7 +120,7 @@ pub extern "C" fn hydrangea_propose(
     name: Name,
 ) -> Reply
     ensures { λ r. ⌜ replied r (now (counters .exit)) (now (mem .exit)) (now (store .exit)) (now (out .exit))
-        ≡ proposeCall (lentTo (now (counters .entry)) (now (mem .entry)) (now (store .entry))) (now (out .entry)) (name .bytes) ⌝ }
+        ≡ repliedBy (proposeCall (lentTo (now (counters .entry)) (now (mem .entry)) (now (store .entry))) (now (out .entry)) (name .bytes)) ⌝ }
 {
     let c = *counters;
     let want = judge::propose(c, mem, store.len(), out.len(), name.bytes);
@@ -186,7 +197,7 @@ pub extern "C" fn hydrangea_open(
     own: u64,
 ) -> Reply
     ensures { λ r. ⌜ replied r (now (counters .exit)) (now (mem .exit)) (now (store .entry)) []
-        ≡ openingCall (lentTo (now (counters .entry)) (now (mem .entry)) (now (store .entry))) f c k n own ⌝ }
+        ≡ repliedBy (openingCall (lentTo (now (counters .entry)) (now (mem .entry)) (now (store .entry))) f c k n own) ⌝ }
 {
     let old = *counters;
     let done = opening(old, mem, store.len(), f, c, k, n, own);

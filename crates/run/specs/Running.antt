@@ -4,7 +4,7 @@ use mathlib.Core.Path.{_≡_}
 use mathlib.Core.Bool.{Bool, true, false}
 use mathlib.Core.List.{List}
 use Rattle.protocol.specs.Calls.{Replica, Outcome, recordCall, timerCall, proposeCall}
-use Rattle.replica.specs.Reply.{replying, lentTo, replied}
+use Rattle.replica.specs.Reply.{lentTo, replied, repliedBy}
 
 -- what stands after a call
 abbrev pub leaves : Outcome → Replica
@@ -13,7 +13,7 @@ leaves x = lentTo (x .counters) (x .memory) (x .store)
 -- the answer r, what stands afterwards and the output are the outcome x
 pub record Made (r : ℕ) (p : Replica) (output : List ℕ) (x : Outcome) : Type 0 where
   pub written : ℕ
-  pub is-outcome : replied (replying r written) (p .counters) (p .memory) (p .store) output ≡ x
+  pub is-outcome : replied (record { refusal = r; written = written }) (p .counters) (p .memory) (p .store) output ≡ repliedBy x
 
 -- a call whose outcome is x, made where it is asked; otherwise nothing changes, and the answer before it stays
 pub record Asked (is : Bool) (before r : ℕ) (p q : Replica) (o o′ : List ℕ) (x : Outcome) : Type 0 where

@@ -1,19 +1,20 @@
 -- `replica::hydrangea_open` meets its contract: a walk of its MIR. tools/walk.py wrote it from hydrangea_open.py.
 -- Assumes nothing.
-use Rattle.walks.proofs.Walk.{_≡_, refl, ℕ, [], _∷_, List, length, URA, fullShare, named, Val, vptr, SProp, ent, id⊢, emp, via, fst∗, GName, Lft, Share, ftrue, flft, Memory, Routine, Heap, Calls, Loops, WpFn, Tables, Atoms, Fun, givenOf, tables, tablesOf, Given, ‵, _⊛_, _$_, _∵_, !, qed, move, drop, split, fsplit, fsplit3, fjoin3, feqI, keep, look, look-raw, init, store-raw, stop, hop, fld, from, load, addr, of-opd, and-then, no-more, assigns, returns, enter, alloc1, alloc0, params1, pass1}
-use Rattle.walks.proofs.Walk.{pass0, lit, agg, whole, sub, look-in, FmC, fmOf, WpFn-mono, owns, Is, shows, mem, u8, u64, MutRef, ptr-vals, mut-tells, sliceVal, MutSlice, Room, slice-vals, mut-slice-tells, ShrSlice, shr-slice-tells, plain, shrSliceOf, opens, closes, owned, peeks, spelt, onEntry, Meets, tripleOf, Contract, Triple, calls-at, entered, cited, Stays, stay-ref, stay-dropped, walkOf, AllGo, goes-dropped, goes-ref, Walks, walked, walk-meets, stay-slice, goes-slice, yes, lit<, true, false}
+use Rattle.walks.proofs.Walk.{_≡_, refl, ℕ, [], _∷_, List, length, URA, fullShare, named, w64, tyInt, Val, vptr, SProp, ent, id⊢, emp, via, fst∗, GName, Lft, Share, ftrue, flft, Memory, Routine, Heap, Calls, Loops, WpFn, Tables, Atoms, Fun, givenOf, tables, tablesOf, Given, ‵, _⊛_, _$_, _∵_, !, qed, move, drop, split, fsplit, fsplit3, fjoin3, feqI, keep, look, look-raw, init, store-raw, stop, hop, fld, from, load, addr, of-opd, and-then, no-more, assigns, returns, enter, alloc1, alloc0}
+use Rattle.walks.proofs.Walk.{params1, pass1, pass0, lit, agg, whole, sub, look-in, FmC, fmOf, WpFn-mono, owns, Is, shows, mem, u8, u64, MutRef, ptr-vals, mut-tells, sliceVal, MutSlice, Room, slice-vals, mut-slice-tells, ShrSlice, shr-slice-tells, plain, shrSliceOf, opens, closes, owned, peeks, spelt, onEntry, Meets, tripleOf, Contract, Triple, calls-at, entered, cited, Stays, stay-ref, stay-dropped, walkOf, AllGo, goes-dropped, goes-ref, Walks, walked, walk-meets, stay-slice, goes-slice, yes, lit<, true, false}
 use Rattle.walks.proofs.Data.{fits, word}
 use Rattle.walks.proofs.Calls.{end, held, made, so, of, asks, back-again, came, full, leave, ends}
 use Rattle.walks.proofs.Lent.{lying, lend-mut}
 use lib.ListN.{length}
 use Rattle.blocks.specs.declared.Block.{Block}
 use Rattle.protocol.specs.Calls.{openingCall}
+use Rattle.refusals.specs.Number.{answerOf}
 use Rattle.replica.specs.Openings.{openedOutcome}
-use Rattle.replica.specs.Reply.{replying, lentTo, replied}
+use Rattle.replica.specs.Reply.{replyOf, lentTo, replied, repliedBy}
 use Rattle.replica.proofs.Openings.{opening-is}
 use Rattle.counters.specs.declared.Counters.{Counters}
 use Rattle.blocks.specs.declared.Block.{Block}
-use Rattle.counters.proofs.Types.{Countersᴿ, Countersᴰ}
+use Rattle.counters.proofs.Types.{Countersᴿ, Countersᵀ, Countersᴰ}
 use Rattle.blocks.proofs.Types.{Blockᴿ}
 use Rattle.replica.proofs.Types.{Openedᴰ, Opened-refusal, Opened-counters, Replyᴰ}
 use Rattle.replica.proofs.opening as opening
@@ -68,9 +69,9 @@ module _ {M : Type 1} (𝓤 : URA M) (H : Heap 𝓤) (A : Atoms 𝓤) (W : Given
       alloc1 ! (λ l₀. alloc1 ! (λ l₁. alloc1 ! (λ l₂. alloc1 ! (λ l₃. alloc1 ! (λ l₄. alloc1 ! (λ l₅. alloc1 ! (λ l₆. alloc1 ! (λ l₇. alloc1 ! (λ l₈. alloc1 ! (λ l₉. alloc1 ! (λ l₁₀. alloc1 ! (λ l₁₁. alloc1 ! (λ l₁₂. alloc1 ! (λ l₁₃. alloc0 ! $ params1 ! $ pass1 ! (init ! 24 refl (tt, tt)) $ pass1 ! (init ! 22 refl (tt, (tt, (record { fits = m-room .0 }, tt)))) $ pass1 ! (init ! 20 refl (tt, (tt, (record { fits = ys-room .0 }, tt)))) $ pass1 ! (init ! 18 refl (fits W word lies lies-is .0)) $ pass1 ! (init ! 16 refl (fits W word stops stops-is .0)) $ pass1 ! (init ! 14 refl (fits W word k k-is .0)) $ pass1 ! (init ! 12 refl (fits W word n n-is .0)) $ pass1 ! (init ! 10 refl (fits W word me me-is .0)) $ pass0 ! $ move ! (28 ∷ []) $ split ! $ move ! (1 ∷ []) $ split ! $ move ! (1 ∷ []) $ split ! $ move ! (1 ∷ []) $ drop ! $ move ! (31 ∷ []) $ fsplit ! $ fsplit3 ! $ drop ! $ move ! (2 ∷ []) $ fsplit ! $ move ! (1 ∷ []) $ fsplit ! $ move ! (1 ∷ []) $ fsplit ! $ drop ! $ fsplit ! $ drop ! $ fsplit ! $ drop ! $ fsplit ! $ drop ! $ fsplit ! $ drop ! $ drop ! $ move ! (2 ∷ 3 ∷ 6 ∷ []) $ opens ! tt Countersᴿ {h = cs} cs-b cs-o (λ cs-vs. spelt ! Countersᴿ (Is Countersᴿ) (shows 𝓤 H A Countersᴿ) (λ x. Countersᴰ .val x ∷ []) (Countersᴰ .tells) fullShare cs cs-vs cs-b cs-o $ move ! (1 ∷ []) $ peeks ! Countersᴿ (Is Countersᴿ) (shows 𝓤 H A Countersᴿ) cs ((Countersᴰ .val cs) ∷ []) (λ cs-is. move ! (1 ∷ 0 ∷ []) $ assigns ! (of-opd ! (load ! (from ! (hop ! (look ! 33 refl) (stop !))) (look-raw ! 0 refl))) (from ! (stop !)) (init ! 17 refl (fits W Countersᴰ cs cs-is .0)) $ assigns ! (addr ! (from ! (fld ! refl (hop ! (look-in ! 31 (sub ! 0 refl (whole !))) (stop !))))) (from ! (stop !)) (init ! 13 refl (tt, tt)) $ assigns ! (agg ! (and-then ! (load ! (from ! (stop !)) (look ! 13 refl)) (and-then ! (load ! (from ! (fld ! refl (stop !))) (look-in ! 31 (sub ! 1 refl (whole !)))) (no-more !)))) (from ! (stop !)) (init ! 11 refl (tt, (tt, (record { fits = m-room .0 }, tt)))) $ assigns ! (of-opd ! (load ! (from ! (fld ! refl (stop !))) (look-in ! 29 (sub ! 1 refl (whole !))))) (from ! (stop !)) (init ! 9 refl (fits W word ys-n (refl, ys-room .0) .0)) $
       -- call 0: `replica::opening`
       move ! (6 ∷ 8 ∷ []) $ lend-mut ! tt u8 m-b m-o m-n m refl (λ ν0-0 δ0-0.
-      let y0 : openingᶜ 𝓤 H A mem run .Ghost = ((((ν0-0 ∷ []), tt), (fullShare, tt), tt, (cs, (lying u8 m-b m-o δ0-0 m, (ys-n, (lies, (stops, (k, (n, (me, tt)))))))), ((Countersᴰ .val cs) ∷ [], (m-s ∷ [], ((word .val ys-n) ∷ [], ((word .val lies) ∷ [], ((word .val stops) ∷ [], ((word .val k) ∷ [], ((word .val n) ∷ [], ((word .val me) ∷ [], tt))))))))), tt) in asks ! opening.ended (opening.clauses 𝓤 H A mem run) y0 2 (of W Countersᴰ cs cs-is (held (of W word ys-n (refl, ys-room .0) (of W word lies lies-is (of W word stops stops-is (of W word k k-is (of W word n n-is (of W word me me-is end)))))))) refl (id⊢ 𝓤 _) $ calls-at ! fm (openingᶜ 𝓤 H A mem run) (known .0) y0 (and-then ! (load ! (from ! (stop !)) (look ! 17 refl)) (and-then ! (load ! (from ! (stop !)) (look ! 11 refl)) (and-then ! (load ! (from ! (stop !)) (look ! 9 refl)) (and-then ! (load ! (from ! (stop !)) (look ! 27 refl)) (and-then ! (load ! (from ! (stop !)) (look ! 25 refl)) (and-then ! (load ! (from ! (stop !)) (look ! 23 refl)) (and-then ! (load ! (from ! (stop !)) (look ! 21 refl)) (and-then ! (load ! (from ! (stop !)) (look ! 19 refl)) (no-more !))))))))) (λ w0. came ! opening.ended (opening.clauses 𝓤 H A mem run) y0 w0 Openedᴰ 14 refl refl (false ∷ true ∷ false ∷ false ∷ false ∷ false ∷ false ∷ false ∷ []) (λ r ws. (l : List Block) → length l ≡ ys-n → openedOutcome r (ws .1 .0) l ≡ openingCall (lentTo cs m l) lies stops k n me) (λ r ws. id⊢ 𝓤 _) (λ r0 ws0 is0 e0. back-again ! tt u8 m-b m-o m-n m (ws0 .1 .0) m-room refl (λ l0-0. assigns ! (of-opd ! (load ! (from ! (fld ! refl (stop !))) (look-in ! 15 (sub ! 1 refl (whole !))))) (from ! (hop ! (look ! 33 refl) (stop !))) (store-raw ! 2 refl (fits W Countersᴰ (r0 .counters) (Opened-counters r0 is0) .0)) $
+      let y0 : openingᶜ 𝓤 H A mem run .Ghost = ((((ν0-0 ∷ []), tt), (fullShare, tt), tt, (cs, (lying u8 m-b m-o δ0-0 m, (ys-n, (lies, (stops, (k, (n, (me, tt)))))))), ((Countersᴰ .val cs) ∷ [], (m-s ∷ [], ((word .val ys-n) ∷ [], ((word .val lies) ∷ [], ((word .val stops) ∷ [], ((word .val k) ∷ [], ((word .val n) ∷ [], ((word .val me) ∷ [], tt))))))))), tt) in asks ! opening.ended (opening.clauses 𝓤 H A mem run) y0 2 (of W Countersᴰ cs cs-is (held (of W word ys-n (refl, ys-room .0) (of W word lies lies-is (of W word stops stops-is (of W word k k-is (of W word n n-is (of W word me me-is end)))))))) refl (id⊢ 𝓤 _) $ calls-at ! fm (openingᶜ 𝓤 H A mem run) (known .0) y0 (and-then ! (load ! (from ! (stop !)) (look ! 17 refl)) (and-then ! (load ! (from ! (stop !)) (look ! 11 refl)) (and-then ! (load ! (from ! (stop !)) (look ! 9 refl)) (and-then ! (load ! (from ! (stop !)) (look ! 27 refl)) (and-then ! (load ! (from ! (stop !)) (look ! 25 refl)) (and-then ! (load ! (from ! (stop !)) (look ! 23 refl)) (and-then ! (load ! (from ! (stop !)) (look ! 21 refl)) (and-then ! (load ! (from ! (stop !)) (look ! 19 refl)) (no-more !))))))))) (λ w0. came ! opening.ended (opening.clauses 𝓤 H A mem run) y0 w0 Openedᴰ 14 refl refl (false ∷ true ∷ false ∷ false ∷ false ∷ false ∷ false ∷ false ∷ []) (λ r ws. (l : List Block) → length l ≡ ys-n → openedOutcome r (ws .1 .0) l ≡ openingCall (lentTo cs m l) lies stops k n me) (λ r ws. id⊢ 𝓤 _) (λ r0 ws0 is0 e0. back-again ! tt u8 m-b m-o m-n m (ws0 .1 .0) m-room refl (λ l0-0. assigns ! (of-opd ! (load ! (from ! (fld ! {τ = Countersᵀ} {d = 8} refl (stop !))) (look-in ! 15 {τ = Countersᵀ} (sub ! 1 {τ = Countersᵀ} {d = 8} refl (whole !))))) (from ! (hop ! (look ! 33 refl) (stop !))) (store-raw ! 2 refl (fits W Countersᴰ (r0 .counters) (Opened-counters r0 is0) .0)) $
       -- call 1: `replica::answer`
-      let y1 : answerᶜ 𝓤 H A mem run .Ghost = ((tt, tt, tt, ((r0 .refusal), (0, tt)), ((word .val (r0 .refusal)) ∷ [], ((word .val 0) ∷ [], tt))), tt) in asks ! answer.ended (answer.clauses 𝓤 H A mem run) y1 0 (of W word (r0 .refusal) (Opened-refusal r0 is0) (of W word 0 (refl, lit< tt) end)) refl (id⊢ 𝓤 _) $ calls-at ! fm (answerᶜ 𝓤 H A mem run) (known .1) y1 (and-then ! (load ! (from ! (fld ! refl (stop !))) (look-in ! 16 (sub ! 0 refl (whole !)))) (and-then ! (lit ! tt) (no-more !))) (λ w1. came ! answer.ended (answer.clauses 𝓤 H A mem run) y1 w1 Replyᴰ 35 refl refl ([]) (λ r ws. r ≡ replying (r0 .refusal) 0) (λ r ws. id⊢ 𝓤 _) (λ r1 ws1 is1 e1.
+      let y1 : answerᶜ 𝓤 H A mem run .Ghost = ((tt, tt, tt, ((r0 .refusal), (0, tt)), ((word .val (r0 .refusal)) ∷ [], ((word .val 0) ∷ [], tt))), tt) in asks ! answer.ended (answer.clauses 𝓤 H A mem run) y1 0 (of W word (r0 .refusal) (Opened-refusal r0 is0) (of W word 0 (refl, lit< tt) end)) refl (id⊢ 𝓤 _) $ calls-at ! fm (answerᶜ 𝓤 H A mem run) (known .1) y1 (and-then ! (load ! (from ! (fld ! {τ = tyInt w64} {d = 0} refl (stop !))) (look-in ! 16 {τ = tyInt w64} (sub ! 0 {τ = tyInt w64} {d = 0} refl (whole !)))) (and-then ! (lit ! tt) (no-more !))) (λ w1. came ! answer.ended (answer.clauses 𝓤 H A mem run) y1 w1 Replyᴰ 35 refl refl ([]) (λ r ws. r ≡ replyOf (answerOf (r0 .refusal) 0)) (λ r ws. id⊢ 𝓤 _) (λ r1 ws1 is1 e1.
       -- the exit
       move ! (3 ∷ []) $ drop ! $ owned ! Countersᴿ (Is Countersᴿ) (Countersᴰ .makes 𝓤 H A W) (r0 .counters) _ (Opened-counters r0 is0) $ move ! (3 ∷ 0 ∷ 4 ∷ 5 ∷ 6 ∷ []) $ closes ! tt Countersᴿ (r0 .counters) ((Countersᴰ .val (r0 .counters)) ∷ []) cs-b cs-o $ returns ! (look ! 33 refl) $ leave ! 7 (full _ ∷ full _ ∷ full _ ∷ full _ ∷ full _ ∷ full _ ∷ full _ ∷ full _ ∷ full _ ∷ full _ ∷ full _ ∷ full _ ∷ full _ ∷ full _ ∷ []) refl $ feqI ! (List Val) (vptr cs-b cs-o ∷ []) (vptr cs-b cs-o ∷ []) refl $ fjoin3 ! $ keep ! (1 ∷ 3 ∷ 5 ∷ 0 ∷ 2 ∷ []) $ ends W f.ended stayed (f.clauses 𝓤 H A mem run) y (Replyᴰ .val r1) r1 ((r0 .counters), ((ws0 .1 .0), (tt, (tt, (tt, (tt, (tt, (tt, tt)))))))) (tt, (l0-0, (tt, (tt, (tt, (tt, (tt, (tt, tt)))))))) (Replyᴰ .makes 𝓤 H A W r1 _ is1) (so 𝓤 (opening-is cs m ys lies stops k n me r0 _ (e0 ys refl) r1 e1)) (held (held (made (id⊢ 𝓤 _) (made (id⊢ 𝓤 _) (made (id⊢ 𝓤 _) (made (id⊢ 𝓤 _) (made (id⊢ 𝓤 _) (made (id⊢ 𝓤 _) end))))))))))))))))))))))))))))))
 

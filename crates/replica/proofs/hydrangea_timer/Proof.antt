@@ -1,7 +1,7 @@
 -- `replica::hydrangea_timer` meets its contract: a walk of its MIR. tools/walk.py wrote it from hydrangea_timer.py.
 -- Assumes nothing.
-use Rattle.walks.proofs.Walk.{_≡_, refl, ℕ, [], _∷_, List, length, set, URA, fullShare, named, Val, vptr, SProp, ent, id⊢, emp, via, fst∗, GName, Lft, Share, ftrue, flft, Memory, Routine, Heap, Calls, Loops, WpFn, Tables, Atoms, Fun, givenOf, tables, tablesOf, Given, ‵, _⊛_, _$_, _∵_, !, qed, move, drop, split, fsplit, fsplit3, fjoin3, feqI, given, keep, look, look-raw, init, store-raw, stop, hop, fld, from, load, addr, of-opd, and-then, no-more, assigns, returns, enter, alloc1, alloc0}
-use Rattle.walks.proofs.Walk.{params1, pass1, pass0, store, agg, whole, sub, look-in, FmC, fmOf, WpFn-mono, owns, Is, shows, mem, u8, u64, MutRef, ptr-vals, mut-tells, sliceVal, MutSlice, Room, slice-vals, mut-slice-tells, plain, opens, closes, owned, peeks, spelt, onEntry, Meets, tripleOf, Contract, Triple, calls-at, entered, cited, Stays, stay-ref, stay-dropped, walkOf, AllGo, goes-dropped, goes-ref, Walks, walked, walk-meets, stay-slice, goes-slice, yes, true, false}
+use Rattle.walks.proofs.Walk.{_≡_, refl, ℕ, [], _∷_, List, length, set, URA, fullShare, named, w64, tyInt, Val, vptr, SProp, ent, id⊢, emp, via, fst∗, GName, Lft, Share, ftrue, flft, Memory, Routine, Heap, Calls, Loops, WpFn, Tables, Atoms, Fun, givenOf, tables, tablesOf, Given, ‵, _⊛_, _$_, _∵_, !, qed, move, drop, split, fsplit, fsplit3, fjoin3, feqI, given, keep, look, look-raw, init, store-raw, stop, hop, fld, from, load, addr, of-opd, and-then, no-more, assigns, returns, enter}
+use Rattle.walks.proofs.Walk.{alloc1, alloc0, params1, pass1, pass0, store, agg, whole, sub, look-in, FmC, fmOf, WpFn-mono, owns, Is, shows, mem, u8, u64, MutRef, ptr-vals, mut-tells, sliceVal, MutSlice, Room, slice-vals, mut-slice-tells, plain, opens, closes, owned, peeks, spelt, onEntry, Meets, tripleOf, Contract, Triple, calls-at, entered, cited, Stays, stay-ref, stay-dropped, walkOf, AllGo, goes-dropped, goes-ref, Walks, walked, walk-meets, stay-slice, goes-slice, yes, true, false}
 use Rattle.walks.proofs.Data.{fits, word}
 use Rattle.walks.proofs.Calls.{end, held, made, out, so, of, asks, back-again, came, full, leave, ends}
 use Rattle.walks.proofs.Lent.{lying, lend-mut, lend-shr, back-shr}
@@ -13,16 +13,16 @@ use Rattle.protocol.specs.Refusals.{regionRules, timerRules}
 use Rattle.protocol.specs.Events.{onRecord, onTimer, onPropose}
 use Rattle.protocol.specs.Rules.{again as turnsOf}
 use Rattle.protocol.specs.Calls.{recordCall, timerCall, proposeCall, _then_}
-use Rattle.refusals.specs.Number.{firstOf}
+use Rattle.refusals.specs.Number.{answerOf, firstOf}
 use Rattle.refusals.specs.Early.{lent}
 use Rattle.judge.specs.Want.{recordWant, proposeWant}
 use Rattle.act.specs.Draft.{workOf, left, leftBy}
 use Rattle.perform.specs.Perform.{Performs, timerNumber, TimerJudged, proposeNumber, ProposeFound, recordNumber, RecordFound}
-use Rattle.replica.specs.Reply.{replying, lentTo, replied}
+use Rattle.replica.specs.Reply.{replyOf, lentTo, replied, repliedBy}
 use Rattle.replica.proofs.Calling.{concludes, timer-is, timer-judged}
 use Rattle.counters.specs.declared.Counters.{Counters}
 use Rattle.blocks.specs.declared.Block.{Block}
-use Rattle.counters.proofs.Types.{Countersᴿ, Countersᴰ}
+use Rattle.counters.proofs.Types.{Countersᴿ, Countersᵀ, Countersᴰ}
 use Rattle.blocks.proofs.Types.{Blockᴿ}
 use Rattle.replica.proofs.Types.{Doneᴰ, Done-refusal}
 use Rattle.replica.proofs.Types.{Draftᴰ, Draft-counters, Draft-at}
@@ -103,9 +103,9 @@ module _ {M : Type 1} (𝓤 : URA M) (H : Heap 𝓤) (A : Atoms 𝓤) (W : Given
       let y1 : perform-timerᶜ 𝓤 H A mem run .Ghost = ((((ν1-0 ∷ []), ((ν1-1 ∷ []), tt)), (fullShare, (fullShare, tt)), tt, (cs, (lying u8 m-b m-o δ1-0 m, (lying u8 out-b out-o δ1-1 out, (r0, (v, tt))))), ((Countersᴰ .val cs) ∷ [], (m-s ∷ [], (out-s ∷ [], ((word .val r0) ∷ [], ((word .val v) ∷ [], tt)))))), tt) in move ! (3 ∷ 0 ∷ 4 ∷ 1 ∷ []) $ asks ! perform-timer.ended (perform-timer.clauses 𝓤 H A mem run) y1 4 (of W Countersᴰ cs cs-is (held (held (of W word r0 is0 (of W word v v-is end))))) refl (so 𝓤 (record { store = ys; given = timer-judged (length out) v r0 (lent cs m ys) (e0 ys refl) })) $ calls-at ! fm (perform-timerᶜ 𝓤 H A mem run) (known .1 .0) y1 (and-then ! (load ! (from ! (stop !)) (look ! 44 refl)) (and-then ! (load ! (from ! (stop !)) (look ! 26 refl)) (and-then ! (load ! (from ! (stop !)) (look ! 22 refl)) (and-then ! (load ! (from ! (stop !)) (look ! 42 refl)) (and-then ! (load ! (from ! (stop !)) (look ! 46 refl)) (no-more !)))))) (λ w1. came ! perform-timer.ended (perform-timer.clauses 𝓤 H A mem run) y1 w1 Doneᴰ 39 refl refl (false ∷ true ∷ true ∷ false ∷ false ∷ []) (λ r ws. Performs (timerNumber (length out) v) (onTimer v) (TimerJudged (length out) v r0) cs m out r (ws .1 .0) (ws .1 .1 .0)) (λ r ws. id⊢ 𝓤 _) (λ r1 ws1 is1 e1. move ! (0 ∷ 2 ∷ 5 ∷ []) $ back-again ! tt u8 m-b m-o m-n m (ws1 .1 .0) m-room refl (λ l1-0. move ! (2 ∷ 3 ∷ 4 ∷ []) $ back-again ! tt u8 out-b out-o out-n out (ws1 .1 .1 .0) out-room refl (λ l1-1. assigns ! (addr ! (from ! (fld ! refl (hop ! (look-in ! 53 (sub ! 0 refl (whole !))) (stop !))))) (from ! (stop !)) (init ! 21 refl (tt, tt)) $ assigns ! (agg ! (and-then ! (load ! (from ! (stop !)) (look ! 21 refl)) (and-then ! (load ! (from ! (fld ! refl (stop !))) (look-in ! 53 (sub ! 1 refl (whole !)))) (no-more !)))) (from ! (stop !)) (init ! 19 refl (tt, (tt, (record { fits = m-room .0 }, tt)))) $ assigns ! (addr ! (from ! (fld ! refl (hop ! (look-in ! 51 (sub ! 0 refl (whole !))) (stop !))))) (from ! (stop !)) (init ! 17 refl (tt, tt)) $ assigns ! (agg ! (and-then ! (load ! (from ! (stop !)) (look ! 17 refl)) (and-then ! (load ! (from ! (fld ! refl (stop !))) (look-in ! 51 (sub ! 1 refl (whole !)))) (no-more !)))) (from ! (stop !)) (init ! 15 refl (tt, (tt, (record { fits = ys-room .0 }, tt)))) $ assigns ! (addr ! (from ! (fld ! refl (hop ! (look-in ! 49 (sub ! 0 refl (whole !))) (stop !))))) (from ! (stop !)) (init ! 13 refl (tt, tt)) $ assigns ! (agg ! (and-then ! (load ! (from ! (stop !)) (look ! 13 refl)) (and-then ! (load ! (from ! (fld ! refl (stop !))) (look-in ! 49 (sub ! 1 refl (whole !)))) (no-more !)))) (from ! (stop !)) (init ! 11 refl (tt, (tt, (record { fits = out-room .0 }, tt)))) $
       -- call 2: `replica::conclude`
       move ! (2 ∷ 3 ∷ []) $ lend-mut ! tt u8 m-b m-o m-n (ws1 .1 .0) l1-0 (λ ν2-0 δ2-0. move ! (10 ∷ 11 ∷ []) $ lend-mut ! tt Blockᴿ ys-b ys-o ys-n ys refl (λ ν2-1 δ2-1. move ! (6 ∷ 7 ∷ []) $ lend-mut ! tt u8 out-b out-o out-n (ws1 .1 .1 .0) l1-1 (λ ν2-2 δ2-2.
-      let y2 : concludeᶜ 𝓤 H A mem run .Ghost = ((((ν2-0 ∷ []), ((ν2-1 ∷ []), ((ν2-2 ∷ []), tt))), (fullShare, (fullShare, (fullShare, tt))), tt, (lying u8 m-b m-o δ2-0 (ws1 .1 .0), (lying Blockᴿ ys-b ys-o δ2-1 ys, (lying u8 out-b out-o δ2-2 (ws1 .1 .1 .0), (r1, tt)))), (m-s ∷ [], (ys-s ∷ [], (out-s ∷ [], ((Doneᴰ .val r1) ∷ [], tt))))), tt) in move ! (6 ∷ 3 ∷ 0 ∷ 7 ∷ 4 ∷ 1 ∷ []) $ asks ! conclude.ended (conclude.clauses 𝓤 H A mem run) y2 6 (held (held (held (of W Doneᴰ r1 is1 end)))) refl (so 𝓤 (concludes ys e1)) $ calls-at ! fm (concludeᶜ 𝓤 H A mem run) (known .1 .1 .0) y2 (and-then ! (load ! (from ! (stop !)) (look ! 17 refl)) (and-then ! (load ! (from ! (stop !)) (look ! 13 refl)) (and-then ! (load ! (from ! (stop !)) (look ! 9 refl)) (and-then ! (load ! (from ! (stop !)) (look ! 39 refl)) (no-more !))))) (λ w2. came ! conclude.ended (conclude.clauses 𝓤 H A mem run) y2 w2 Draftᴰ 36 refl refl (true ∷ true ∷ true ∷ false ∷ []) (λ r ws. left r (ws .0) (ws .1 .1 .0) (ws .1 .0) ≡ leftBy (turnsOf (r1 .turns) (workOf (r1 .draft) (ws1 .1 .0) (ws1 .1 .1 .0) (set ys (r1 .place) (r1 .block)))) (ws1 .1 .1 .0)) (λ r ws. id⊢ 𝓤 _) (λ r2 ws2 is2 e2. move ! (0 ∷ 3 ∷ 8 ∷ []) $ back-again ! tt u8 m-b m-o m-n (ws1 .1 .0) (ws2 .0) m-room l1-0 (λ l2-0. move ! (2 ∷ 4 ∷ 7 ∷ []) $ back-again ! tt Blockᴿ ys-b ys-o ys-n ys (ws2 .1 .0) ys-room refl (λ l2-1. move ! (4 ∷ 5 ∷ 6 ∷ []) $ back-again ! tt u8 out-b out-o out-n (ws1 .1 .1 .0) (ws2 .1 .1 .0) out-room l1-1 (λ l2-2. assigns ! (of-opd ! (load ! (from ! (fld ! refl (stop !))) (look-in ! 39 (sub ! 0 refl (whole !))))) (from ! (hop ! (look ! 55 refl) (stop !))) (store-raw ! 6 refl (fits W Countersᴰ (r2 .counters) (Draft-counters r2 is2) .0)) $
+      let y2 : concludeᶜ 𝓤 H A mem run .Ghost = ((((ν2-0 ∷ []), ((ν2-1 ∷ []), ((ν2-2 ∷ []), tt))), (fullShare, (fullShare, (fullShare, tt))), tt, (lying u8 m-b m-o δ2-0 (ws1 .1 .0), (lying Blockᴿ ys-b ys-o δ2-1 ys, (lying u8 out-b out-o δ2-2 (ws1 .1 .1 .0), (r1, tt)))), (m-s ∷ [], (ys-s ∷ [], (out-s ∷ [], ((Doneᴰ .val r1) ∷ [], tt))))), tt) in move ! (6 ∷ 3 ∷ 0 ∷ 7 ∷ 4 ∷ 1 ∷ []) $ asks ! conclude.ended (conclude.clauses 𝓤 H A mem run) y2 6 (held (held (held (of W Doneᴰ r1 is1 end)))) refl (so 𝓤 (concludes ys e1)) $ calls-at ! fm (concludeᶜ 𝓤 H A mem run) (known .1 .1 .0) y2 (and-then ! (load ! (from ! (stop !)) (look ! 17 refl)) (and-then ! (load ! (from ! (stop !)) (look ! 13 refl)) (and-then ! (load ! (from ! (stop !)) (look ! 9 refl)) (and-then ! (load ! (from ! (stop !)) (look ! 39 refl)) (no-more !))))) (λ w2. came ! conclude.ended (conclude.clauses 𝓤 H A mem run) y2 w2 Draftᴰ 36 refl refl (true ∷ true ∷ true ∷ false ∷ []) (λ r ws. left r (ws .0) (ws .1 .1 .0) (ws .1 .0) ≡ leftBy (turnsOf (r1 .turns) (workOf (r1 .draft) (ws1 .1 .0) (ws1 .1 .1 .0) (set ys (r1 .place) (r1 .block)))) (ws1 .1 .1 .0)) (λ r ws. id⊢ 𝓤 _) (λ r2 ws2 is2 e2. move ! (0 ∷ 3 ∷ 8 ∷ []) $ back-again ! tt u8 m-b m-o m-n (ws1 .1 .0) (ws2 .0) m-room l1-0 (λ l2-0. move ! (2 ∷ 4 ∷ 7 ∷ []) $ back-again ! tt Blockᴿ ys-b ys-o ys-n ys (ws2 .1 .0) ys-room refl (λ l2-1. move ! (4 ∷ 5 ∷ 6 ∷ []) $ back-again ! tt u8 out-b out-o out-n (ws1 .1 .1 .0) (ws2 .1 .1 .0) out-room l1-1 (λ l2-2. assigns ! (of-opd ! (load ! (from ! (fld ! {τ = Countersᵀ} {d = 0} refl (stop !))) (look-in ! 39 {τ = Countersᵀ} (sub ! 0 {τ = Countersᵀ} {d = 0} refl (whole !))))) (from ! (hop ! (look ! 55 refl) (stop !))) (store-raw ! 6 refl (fits W Countersᴰ (r2 .counters) (Draft-counters r2 is2) .0)) $
       -- call 3: `replica::answer`
-      let y3 : answerᶜ 𝓤 H A mem run .Ghost = ((tt, tt, tt, ((r1 .refusal), ((r2 .at), tt)), ((word .val (r1 .refusal)) ∷ [], ((word .val (r2 .at)) ∷ [], tt))), tt) in asks ! answer.ended (answer.clauses 𝓤 H A mem run) y3 0 (of W word (r1 .refusal) (Done-refusal r1 is1) (of W word (r2 .at) (Draft-at r2 is2) end)) refl (id⊢ 𝓤 _) $ calls-at ! fm (answerᶜ 𝓤 H A mem run) (known .1 .1 .1) y3 (and-then ! (load ! (from ! (fld ! refl (stop !))) (look-in ! 42 (sub ! 0 refl (whole !)))) (and-then ! (load ! (from ! (fld ! refl (stop !))) (look-in ! 40 (sub ! 1 refl (whole !)))) (no-more !))) (λ w3. came ! answer.ended (answer.clauses 𝓤 H A mem run) y3 w3 Replyᴰ 57 refl refl ([]) (λ r ws. r ≡ replying (r1 .refusal) (r2 .at)) (λ r ws. id⊢ 𝓤 _) (λ r3 ws3 is3 e3.
+      let y3 : answerᶜ 𝓤 H A mem run .Ghost = ((tt, tt, tt, ((r1 .refusal), ((r2 .at), tt)), ((word .val (r1 .refusal)) ∷ [], ((word .val (r2 .at)) ∷ [], tt))), tt) in asks ! answer.ended (answer.clauses 𝓤 H A mem run) y3 0 (of W word (r1 .refusal) (Done-refusal r1 is1) (of W word (r2 .at) (Draft-at r2 is2) end)) refl (id⊢ 𝓤 _) $ calls-at ! fm (answerᶜ 𝓤 H A mem run) (known .1 .1 .1) y3 (and-then ! (load ! (from ! (fld ! {τ = tyInt w64} {d = 0} refl (stop !))) (look-in ! 42 {τ = tyInt w64} (sub ! 0 {τ = tyInt w64} {d = 0} refl (whole !)))) (and-then ! (load ! (from ! (fld ! {τ = tyInt w64} {d = 224} refl (stop !))) (look-in ! 40 {τ = tyInt w64} (sub ! 1 {τ = tyInt w64} {d = 224} refl (whole !)))) (no-more !))) (λ w3. came ! answer.ended (answer.clauses 𝓤 H A mem run) y3 w3 Replyᴰ 57 refl refl ([]) (λ r ws. r ≡ replyOf (answerOf (r1 .refusal) (r2 .at))) (λ r ws. id⊢ 𝓤 _) (λ r3 ws3 is3 e3.
       -- the exit
       move ! (7 ∷ []) $ drop ! $ owned ! Countersᴿ (Is Countersᴿ) (Countersᴰ .makes 𝓤 H A W) (r2 .counters) _ (Draft-counters r2 is2) $ move ! (7 ∷ 0 ∷ 8 ∷ 9 ∷ 10 ∷ []) $ closes ! tt Countersᴿ (r2 .counters) ((Countersᴰ .val (r2 .counters)) ∷ []) cs-b cs-o $ returns ! (look ! 55 refl) $ leave ! 9 (full _ ∷ full _ ∷ full _ ∷ full _ ∷ full _ ∷ full _ ∷ full _ ∷ full _ ∷ full _ ∷ full _ ∷ full _ ∷ full _ ∷ full _ ∷ full _ ∷ full _ ∷ full _ ∷ full _ ∷ full _ ∷ full _ ∷ full _ ∷ full _ ∷ full _ ∷ full _ ∷ full _ ∷ []) refl $ feqI ! (List Val) (vptr cs-b cs-o ∷ []) (vptr cs-b cs-o ∷ []) refl $ fjoin3 ! $ keep ! (1 ∷ 7 ∷ 5 ∷ 3 ∷ 0 ∷ 6 ∷ 4 ∷ 2 ∷ []) $ ends W f.ended stayed (f.clauses 𝓤 H A mem run) y (Replyᴰ .val r3) r3 ((r2 .counters), ((ws2 .0), ((ws2 .1 .0), ((ws2 .1 .1 .0), (tt, tt))))) (tt, (l2-0, (l2-1, (l2-2, (tt, tt))))) (Replyᴰ .makes 𝓤 H A W r3 _ is3) (so 𝓤 (timer-is cs m out ys (ys-room .0) r1 _ _ r2 _ _ _ e2 r3 e3 v r0 (timer-judged (length out) v r0 (lent cs m ys) (e0 ys refl)) e1)) (held (held (held (held (made (id⊢ 𝓤 _) end))))))))))))))))))))))))))))))))))))))))))))))))))
 

@@ -7,7 +7,7 @@ use Rattle.walks.proofs.Calls.{end, held, made, so, of, asks, back-again, came,
 use Rattle.walks.proofs.Lent.{lying, Shr, lend-mut}
 use Rattle.walks.proofs.Local.{pointing, lend-ref, back-ref}
 use Rattle.protocol.specs.Calls.{openingCall}
-use Rattle.replica.specs.Reply.{lentTo, replied}
+use Rattle.replica.specs.Reply.{lentTo, replied, repliedBy}
 use Rattle.run.proofs.Moves.{made-by}
 use Rattle.counters.specs.declared.Counters.{Counters}
 use Rattle.blocks.specs.declared.Block.{Block}
@@ -68,7 +68,7 @@ module _ {M : Type 1} (𝓤 : URA M) (H : Heap 𝓤) (A : Atoms 𝓤) (W : Given
       alloc1 ! (λ l₀. alloc1 ! (λ l₁. alloc1 ! (λ l₂. alloc1 ! (λ l₃. alloc1 ! (λ l₄. alloc1 ! (λ l₅. alloc1 ! (λ l₆. alloc1 ! (λ l₇. alloc1 ! (λ l₈. alloc0 ! $ params1 ! $ pass1 ! (init ! 14 refl (tt, tt)) $ pass1 ! (init ! 12 refl (tt, (tt, (record { fits = m-room .0 }, tt)))) $ pass1 ! (init ! 10 refl (tt, (tt, (record { fits = ys-room .0 }, tt)))) $ pass1 ! (init ! 8 refl (fits W Openingᴰ five five-is .0)) $ pass0 ! $ move ! (18 ∷ []) $ split ! $ move ! (1 ∷ []) $ split ! $ move ! (1 ∷ []) $ split ! $ move ! (1 ∷ []) $ drop ! $ move ! (21 ∷ []) $ fsplit ! $ move ! (1 ∷ []) $ fsplit ! $ move ! (1 ∷ []) $ fsplit ! $ move ! (1 ∷ []) $ fsplit ! $ drop ! $ drop ! $ assigns ! (addr ! (from ! (hop ! (look ! 20 refl) (stop !)))) (from ! (stop !)) (init ! 10 refl (tt, tt)) $ assigns ! (addr ! (from ! (fld ! refl (hop ! (look-in ! 18 (sub ! 0 refl (whole !))) (stop !))))) (from ! (stop !)) (init ! 8 refl (tt, tt)) $ assigns ! (agg ! (and-then ! (load ! (from ! (stop !)) (look ! 8 refl)) (and-then ! (load ! (from ! (fld ! refl (stop !))) (look-in ! 18 (sub ! 1 refl (whole !)))) (no-more !)))) (from ! (stop !)) (init ! 6 refl (tt, (tt, (record { fits = m-room .0 }, tt)))) $
       -- call 0: `replica::hydrangea_open`
       move ! (2 ∷ 5 ∷ []) $ lend-ref ! tt Countersᴿ cs-b cs-o cs (λ ν0-0 δ0-0. move ! (4 ∷ 6 ∷ []) $ lend-mut ! tt u8 m-b m-o m-n m refl (λ ν0-1 δ0-1. move ! (6 ∷ []) $ use1 W (‵ (Shr Blockᴿ κ2 ys-b ys-o ys-γ ys-n ys) ⊛ ‵ (Shr Blockᴿ κ2 ys-b ys-o ys-γ ys-n ys)) (shr-slice-copy 𝓤 H A W (named 0) κ2 Blockᴿ .twice (lying Blockᴿ ys-b ys-o ys-γ ys) (ys-s ∷ [])) $ split ! $
-      let y0 : hydrangea-openᶜ 𝓤 H A mem run .Ghost = ((((ν0-0 ∷ []), ((ν0-1 ∷ []), (κ2, tt))), (fullShare, (fullShare, (q2, tt))), tt, (pointing Countersᴿ cs-b cs-o δ0-0 cs, (lying u8 m-b m-o δ0-1 m, (lying Blockᴿ ys-b ys-o ys-γ ys, ((five .f), ((five .c), ((five .k), ((five .n), ((five .own), tt)))))))), (vptr cs-b cs-o ∷ [], (m-s ∷ [], (ys-s ∷ [], ((word .val (five .f)) ∷ [], ((word .val (five .c)) ∷ [], ((word .val (five .k)) ∷ [], ((word .val (five .n)) ∷ [], ((word .val (five .own)) ∷ [], tt))))))))), tt) in move ! (5 ∷ 2 ∷ 8 ∷ 6 ∷ 3 ∷ 0 ∷ []) $ asks ! hydrangea-open.ended (hydrangea-open.clauses 𝓤 H A mem run) y0 6 (held (held (held (of W word (five .f) (Opening-f five five-is) (of W word (five .c) (Opening-c five five-is) (of W word (five .k) (Opening-k five five-is) (of W word (five .n) (Opening-n five five-is) (of W word (five .own) (Opening-own five five-is) end)))))))) refl (id⊢ 𝓤 _) $ calls-at ! fm (hydrangea-openᶜ 𝓤 H A mem run) (known .0) y0 (and-then ! (load ! (from ! (stop !)) (look ! 8 refl)) (and-then ! (load ! (from ! (stop !)) (look ! 4 refl)) (and-then ! (load ! (from ! (stop !)) (look ! 14 refl)) (and-then ! (load ! (from ! (fld ! {τ = tyInt w64} {d = 0} refl (stop !))) (look-in ! 12 {τ = tyInt w64} (sub ! 0 {τ = tyInt w64} {d = 0} refl (whole !)))) (and-then ! (load ! (from ! (fld ! {τ = tyInt w64} {d = 8} refl (stop !))) (look-in ! 12 {τ = tyInt w64} (sub ! 1 {τ = tyInt w64} {d = 8} refl (whole !)))) (and-then ! (load ! (from ! (fld ! {τ = tyInt w64} {d = 16} refl (stop !))) (look-in ! 12 {τ = tyInt w64} (sub ! 2 {τ = tyInt w64} {d = 16} refl (whole !)))) (and-then ! (load ! (from ! (fld ! {τ = tyInt w64} {d = 24} refl (stop !))) (look-in ! 12 {τ = tyInt w64} (sub ! 3 {τ = tyInt w64} {d = 24} refl (whole !)))) (and-then ! (load ! (from ! (fld ! {τ = tyInt w64} {d = 32} refl (stop !))) (look-in ! 12 {τ = tyInt w64} (sub ! 4 {τ = tyInt w64} {d = 32} refl (whole !)))) (no-more !))))))))) (λ w0. came ! hydrangea-open.ended (hydrangea-open.clauses 𝓤 H A mem run) y0 w0 Replyᴰ 9 refl refl (true ∷ true ∷ false ∷ false ∷ false ∷ false ∷ false ∷ false ∷ []) (λ r ws. replied r (ws .0) (ws .1 .0) ys [] ≡ openingCall (lentTo cs m ys) (five .f) (five .c) (five .k) (five .n) (five .own)) (λ r ws. id⊢ 𝓤 _) (λ r0 ws0 is0 e0. move ! (0 ∷ 3 ∷ 7 ∷ []) $ back-ref ! tt Countersᴿ cs-b cs-o cs (ws0 .0) $ move ! (2 ∷ 4 ∷ 6 ∷ []) $ back-again ! tt u8 m-b m-o m-n m (ws0 .1 .0) m-room refl (λ l0-1.
+      let y0 : hydrangea-openᶜ 𝓤 H A mem run .Ghost = ((((ν0-0 ∷ []), ((ν0-1 ∷ []), (κ2, tt))), (fullShare, (fullShare, (q2, tt))), tt, (pointing Countersᴿ cs-b cs-o δ0-0 cs, (lying u8 m-b m-o δ0-1 m, (lying Blockᴿ ys-b ys-o ys-γ ys, ((five .f), ((five .c), ((five .k), ((five .n), ((five .own), tt)))))))), (vptr cs-b cs-o ∷ [], (m-s ∷ [], (ys-s ∷ [], ((word .val (five .f)) ∷ [], ((word .val (five .c)) ∷ [], ((word .val (five .k)) ∷ [], ((word .val (five .n)) ∷ [], ((word .val (five .own)) ∷ [], tt))))))))), tt) in move ! (5 ∷ 2 ∷ 8 ∷ 6 ∷ 3 ∷ 0 ∷ []) $ asks ! hydrangea-open.ended (hydrangea-open.clauses 𝓤 H A mem run) y0 6 (held (held (held (of W word (five .f) (Opening-f five five-is) (of W word (five .c) (Opening-c five five-is) (of W word (five .k) (Opening-k five five-is) (of W word (five .n) (Opening-n five five-is) (of W word (five .own) (Opening-own five five-is) end)))))))) refl (id⊢ 𝓤 _) $ calls-at ! fm (hydrangea-openᶜ 𝓤 H A mem run) (known .0) y0 (and-then ! (load ! (from ! (stop !)) (look ! 8 refl)) (and-then ! (load ! (from ! (stop !)) (look ! 4 refl)) (and-then ! (load ! (from ! (stop !)) (look ! 14 refl)) (and-then ! (load ! (from ! (fld ! {τ = tyInt w64} {d = 0} refl (stop !))) (look-in ! 12 {τ = tyInt w64} (sub ! 0 {τ = tyInt w64} {d = 0} refl (whole !)))) (and-then ! (load ! (from ! (fld ! {τ = tyInt w64} {d = 8} refl (stop !))) (look-in ! 12 {τ = tyInt w64} (sub ! 1 {τ = tyInt w64} {d = 8} refl (whole !)))) (and-then ! (load ! (from ! (fld ! {τ = tyInt w64} {d = 16} refl (stop !))) (look-in ! 12 {τ = tyInt w64} (sub ! 2 {τ = tyInt w64} {d = 16} refl (whole !)))) (and-then ! (load ! (from ! (fld ! {τ = tyInt w64} {d = 24} refl (stop !))) (look-in ! 12 {τ = tyInt w64} (sub ! 3 {τ = tyInt w64} {d = 24} refl (whole !)))) (and-then ! (load ! (from ! (fld ! {τ = tyInt w64} {d = 32} refl (stop !))) (look-in ! 12 {τ = tyInt w64} (sub ! 4 {τ = tyInt w64} {d = 32} refl (whole !)))) (no-more !))))))))) (λ w0. came ! hydrangea-open.ended (hydrangea-open.clauses 𝓤 H A mem run) y0 w0 Replyᴰ 9 refl refl (true ∷ true ∷ false ∷ false ∷ false ∷ false ∷ false ∷ false ∷ []) (λ r ws. replied r (ws .0) (ws .1 .0) ys [] ≡ repliedBy (openingCall (lentTo cs m ys) (five .f) (five .c) (five .k) (five .n) (five .own))) (λ r ws. id⊢ 𝓤 _) (λ r0 ws0 is0 e0. move ! (0 ∷ 3 ∷ 7 ∷ []) $ back-ref ! tt Countersᴿ cs-b cs-o cs (ws0 .0) $ move ! (2 ∷ 4 ∷ 6 ∷ []) $ back-again ! tt u8 m-b m-o m-n m (ws0 .1 .0) m-room refl (λ l0-1.
       -- call 1: `run::refusal_of`
       let y1 : refusal-ofᶜ 𝓤 H A mem run .Ghost = ((tt, tt, tt, (r0, tt), ((Replyᴰ .val r0) ∷ [], tt)), tt) in asks ! refusal-of.ended (refusal-of.clauses 𝓤 H A mem run) y1 0 (of W Replyᴰ r0 is0 end) refl (id⊢ 𝓤 _) $ calls-at ! fm (refusal-ofᶜ 𝓤 H A mem run) (known .1) y1 (and-then ! (load ! (from ! (stop !)) (look ! 13 refl)) (no-more !)) (λ w1. came ! refusal-of.ended (refusal-of.clauses 𝓤 H A mem run) y1 w1 word 22 refl refl ([]) (λ r ws. r ≡ r0 .refusal) (λ r ws. id⊢ 𝓤 _) (λ r1 ws1 is1 e1.
       -- the exit
