@@ -5,6 +5,7 @@ use std::{fmt, fs, io, path::Path};
 
 use bench::table::Table;
 use bench::{held, kinds, markdown, plot, releases, size, timeouts};
+use oracle::help;
 
 const USAGE: &str = "\
 usage: bench [--calls N] [--rounds N] [--section NAME].. [--markdown] [--csv FOLDER] [--svg OUT]
@@ -14,6 +15,7 @@ usage: bench [--calls N] [--rounds N] [--section NAME].. [--markdown] [--csv FOL
   --markdown      prints the tables as docs/PERFORMANCE.md has them
   --csv FOLDER    writes each section's table to FOLDER/NAME.csv
   --svg OUT       draws the sections size and held
+  --help          prints this
 sections:
   kinds     every kind of call, accepted and refused, on random streams; n 6, 13, 32
   size      accepted calls of a cluster at work; n 6 to 32
@@ -63,6 +65,7 @@ impl Options {
 }
 
 fn main() -> ExitCode {
+    help::answer(USAGE);
     let Some(options) = Options::read(std::env::args().skip(1)) else {
         eprintln!("{USAGE}");
         return ExitCode::FAILURE;

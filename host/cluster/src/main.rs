@@ -10,16 +10,29 @@ use std::{env, fs, process, thread};
 use cluster::host::{Breach, Halt, Host, Options, Point};
 use cluster::supervisor::{self, Plan};
 use cluster::{byzantine, keys_file};
+use oracle::help;
 
-const USAGE: &str = "usage:
-  cluster run [--seed S] [--releases N] [--deadline SECONDS] [--no-faults] [--sync] [--breach BREACH]
-  cluster replica FOLDER OWN [--sync] [--halt CALL called|written|saved] [--breach BREACH]
-  cluster byzantine FOLDER OWN SEED
-where BREACH is sends-first or forgets";
+const USAGE: &str = "\
+usage: cluster run [--seed S] [--releases N] [--deadline SECONDS] [--no-faults] [--sync] [--breach BREACH]
+       cluster replica FOLDER OWN [--sync] [--halt CALL POINT] [--breach BREACH]
+       cluster byzantine FOLDER OWN SEED
+`run` plays one cluster and prints its summary. The others are its processes, which it starts itself.
+  --seed S            what is drawn follows from it, 1 if not given
+  --releases N        how many every live row must have, 20 if not given
+  --deadline SECONDS  a run that isn't done by then has failed, 20 if not given
+  --no-faults         all six are honest and stay up
+  --sync              saves outlast the machine (fsync), not only the process
+  --breach BREACH     honest hosts break a duty: sends-first (what they write is sent before it is saved) or forgets (a
+                      restarted one opens anew)
+  --halt CALL POINT   the process stands still in its so manieth accepted call that sends something, when the replica
+                      was called, the new state written, or saved: POINT is called, written or saved
+  FOLDER OWN SEED     the run's files, the process's own number, what the Byzantine one draws
+  --help              prints this";
 
 type Words = std::iter::Skip<env::Args>;
 
 fn main() -> ExitCode {
+    help::answer(USAGE);
     let mut words = env::args().skip(1);
     let done = match words.next().as_deref() {
         Some("run") => run(words),

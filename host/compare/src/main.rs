@@ -1,16 +1,20 @@
 //! Compares library and oracle on seeded runs, or replays a mismatch.
-//!
-//!     compare CALLS [FIRST_SEED]      so many calls from openings, and as many from garbage
-//!     compare replay FILE             the lines that a mismatch printed
 
 use std::process::ExitCode;
 
 use compare::{compare_part, replay, Kind};
-use oracle::Faults;
+use oracle::{help, Faults};
 
-const USAGE: &str = "compare CALLS [FIRST_SEED]\ncompare replay FILE";
+const USAGE: &str = "\
+usage: compare CALLS [FIRST_SEED]
+       compare replay FILE
+  CALLS       so many calls from openings are compared, and as many from garbage
+  FIRST_SEED  runs follow from seeds from this one on, 0 if not given
+  FILE        has the lines that a mismatch printed; they are played again
+  --help      prints this";
 
 fn main() -> ExitCode {
+    help::answer(USAGE);
     let arguments: Vec<String> = std::env::args().skip(1).collect();
     let arguments: Vec<&str> = arguments.iter().map(String::as_str).collect();
     match perform(&arguments) {

@@ -11,6 +11,7 @@ mod settings;
 mod store;
 mod types;
 
+pub mod help;
 pub mod lent;
 pub mod literal;
 pub mod regions;

@@ -3,13 +3,22 @@
 use std::process::ExitCode;
 use std::time::Instant;
 
-use oracle::{Faults, Protocol, Replica, Settings};
+use oracle::{help, Faults, Protocol, Replica, Settings};
 use sim::{scenarios, Core, Coverage, Plan, Proved, Script, Style};
 
 const USAGE: &str = "\
-usage: sim [--calls N] [--seed S] [--settings f,c,k].. [--longest N]
-           [--style both|network|rounds|old-states] [--fault NAME].. [--core oracle|library]
-       sim --scenario NAME     the scripted run for a fault, or `resume`, with the error and without it";
+usage: sim [--calls N] [--seed S] [--settings f,c,k].. [--longest N] [--style STYLE] [--core CORE] [--fault NAME]..
+       sim --scenario NAME
+  --calls N         random calls over all settings, 1,000,000 if not given
+  --seed S          what is drawn follows from it, 1 if not given
+  --settings f,c,k  these settings in place of the usual six; may be given several times
+  --longest N       the most calls of one run, 400 for each replica if not given
+  --style STYLE     how runs are drawn: network, rounds, both (by turns, if not given), or old-states
+  --core CORE       the replicas: oracle (if not given) or library, the proved one
+  --fault NAME      an error built into the honest replicas, of the oracle only; may be given several times
+  --scenario NAME   the scripted run for a fault, or `resume`, call by call in words: with the error and without it
+  --help            prints this
+`run --help` has the names of the faults.";
 
 struct Options {
     calls: u64,
@@ -77,6 +86,7 @@ fn options(mut arguments: impl Iterator<Item = String>) -> Option<Options> {
 }
 
 fn main() -> ExitCode {
+    help::answer(USAGE);
     let Some(options) = options(std::env::args().skip(1)) else {
         eprintln!("{USAGE}");
         return ExitCode::FAILURE;

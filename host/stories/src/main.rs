@@ -1,13 +1,19 @@
-//! Writes the folder of stored runs: `stories DIR`.
+//! Writes the folder of stored runs.
 
 use std::path::Path;
 use std::process::ExitCode;
 use std::{fs, io};
 
+const USAGE: &str = "\
+usage: stories DIR
+  DIR     the folder that the stored runs and the story are written to; it is made if it isn't there
+  --help  prints this";
+
 fn main() -> ExitCode {
+    oracle::help::answer(USAGE);
     let arguments: Vec<String> = std::env::args().skip(1).collect();
     let [folder] = &arguments[..] else {
-        eprintln!("usage: stories DIR");
+        eprintln!("{USAGE}");
         return ExitCode::from(2);
     };
     match write(Path::new(folder)) {

@@ -4,7 +4,7 @@ use std::fs;
 use std::io::{self, BufWriter, IsTerminal, Write};
 use std::process::ExitCode;
 
-use oracle::{Faults, Protocol, Replica};
+use oracle::{help, Faults, Protocol, Replica};
 use sim::Proved;
 use view::{join, page, picture, play, Error, Event, Opened, Panel, Played, Recording, Summary, Timeline};
 
@@ -14,11 +14,14 @@ usage: view [--summary] [--progress] [--core CORE] [--beside FILE] [--fault NAME
 FILE is an input of the run program (one replica each; several may be given) or a run of a whole cluster.
   --html OUT     a page with the picture and every call in words
   --svg OUT      the picture alone
+  --title TEXT   the heading of page and picture
   --beside FILE  a second run, shown below the first
   --core CORE    library (the proved one, as a rule) or oracle; a run with an error built in is played on the oracle
-  --fault NAME   an error built into the replicas of the second run, or of the first if there is no second
+  --fault NAME   an error built into the replicas of the second run, or of the first if there is no second; may be given
+                 several times, `run --help` has the names
   --summary      only counts, releases and last states
-  --progress     tells on standard error how far it is; as a rule only a terminal is told";
+  --progress     tells on standard error how far it is; as a rule only a terminal is told
+  --help         prints this";
 
 #[derive(Default)]
 struct Options {
@@ -103,6 +106,7 @@ impl Options {
 }
 
 fn main() -> ExitCode {
+    help::answer(USAGE);
     let options = match Options::read(std::env::args().skip(1)) {
         Ok(options) => options,
         Err(error) => {

@@ -1,14 +1,24 @@
-//! The run program: `run [--trace] [--FAULT]..` with the records on standard input.
+//! The run program, with the records on standard input.
 
 use std::io::{self, BufWriter, Read, Write};
 use std::process::ExitCode;
 
 use oracle::run::{run, Options};
-use oracle::Faults;
+use oracle::{help, Faults};
+
+const USAGE: &str = "\
+usage: run [--trace] [--FAULT].. < FILE
+FILE is an input of 01's run program: an opening, then records. One line is printed for each call.
+  --trace  each line ends with the call's output in hex, `-` if it wrote nothing
+  --FAULT  an error built into the replica; several may be given
+  --help   prints this
+FAULT is one of:";
 
 fn main() -> ExitCode {
+    let usage = format!("{USAGE}\n  {}", Faults::NAMES.join("\n  "));
+    help::answer(&usage);
     let Some(options) = options(std::env::args().skip(1)) else {
-        eprintln!("run [--trace] [--FAULT].. < input, FAULT one of: {}", Faults::NAMES.join(" "));
+        eprintln!("{usage}");
         return ExitCode::from(2);
     };
     match play(options) {

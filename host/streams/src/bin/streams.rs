@@ -1,10 +1,4 @@
 //! Writes input files of the run program, or prints what streams cover.
-//!
-//!     streams input SEED CALLS [F C K OWN] > FILE     one input
-//!     streams files DIR FIRST_SEED COUNT CALLS         many inputs, one file a seed
-//!     streams coverage FIRST_SEED COUNT CALLS          plays streams and prints the table
-//!     streams lent FIRST_SEED STATES CALLS > FILE      one input of the program over lent regions
-//!     streams lent-coverage FIRST_SEED STATES CALLS    prints what such an input covers
 
 use std::io::{self, Write};
 use std::path::Path;
@@ -12,13 +6,23 @@ use std::process::ExitCode;
 
 use streams::{input, lent_input, play, Coverage, LentCoverage, Opening, UNREACHABLE};
 
-const USAGE: &str = "streams input SEED CALLS [F C K OWN] > FILE
-streams files DIR FIRST_SEED COUNT CALLS
-streams coverage FIRST_SEED COUNT CALLS
-streams lent FIRST_SEED STATES CALLS > FILE
-streams lent-coverage FIRST_SEED STATES CALLS";
+const USAGE: &str = "\
+usage: streams input SEED CALLS [F C K OWN] > FILE   one input of the run program
+       streams files DIR FIRST COUNT CALLS           many inputs, one file for each seed
+       streams coverage FIRST COUNT CALLS            plays streams and prints what they cover
+       streams lent FIRST STATES CALLS > FILE        one input of the program over lent regions
+       streams lent-coverage FIRST STATES CALLS      prints what such an input covers
+  SEED       what the stream follows from
+  FIRST      the first seed of several
+  COUNT      how many streams, one for each seed
+  STATES     how many states are lent, one for each seed
+  CALLS      how many calls in each stream, or on each state
+  F C K OWN  settings and own number; they follow from the seed if not given
+  DIR        the folder for the files; it is made if it isn't there
+  --help     prints this";
 
 fn main() -> ExitCode {
+    oracle::help::answer(USAGE);
     let arguments: Vec<String> = std::env::args().skip(1).collect();
     let arguments: Vec<&str> = arguments.iter().map(String::as_str).collect();
     match perform(&arguments) {
