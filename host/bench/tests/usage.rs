@@ -1,4 +1,4 @@
-//! The program prints its usage if it is asked for, and if its arguments are wrong.
+//! The programs print their usage if it is asked for, and if their arguments are wrong.
 
 #[path = "../../oracle/tests/common/usage.rs"]
 mod usage;
@@ -7,4 +7,6 @@ mod usage;
 fn the_usage_is_printed() {
     usage::on_request(env!("CARGO_BIN_EXE_bench"));
     usage::on_error(env!("CARGO_BIN_EXE_bench"), &["--section", "wrong"]);
+    usage::on_request(env!("CARGO_BIN_EXE_profile"));
+    usage::on_error(env!("CARGO_BIN_EXE_profile"), &["work", "7", "Vote", "accepted"]);
 }

@@ -1,41 +1,75 @@
-//! Plays calls on the library for a profiler: `profile streams|work N KIND accepted|refused [RUNS]`, random streams or a
-//! cluster at work. Calls of that kind and answer go through the function `profiled`, all others through `others`:
+//! Plays calls on the library for a profiler, random streams or a cluster at work. Calls of the kind and answer asked
+//! for go through the function `profiled`, all others through `others`:
 //!
 //!     valgrind --tool=callgrind --toggle-collect='*profiled*' target/release/profile work 13 Vote accepted
 
 use std::hint::black_box;
+use std::process::ExitCode;
 
 use bench::sides::{Library, Oracle, Side};
 use bench::size;
+use oracle::help;
 use streams::{play, Call, Coverage, Kind, Opening};
 
-const USAGE: &str = "profile streams|work N KIND accepted|refused [RUNS]";
+const USAGE: &str = "\
+usage: profile streams|work N KIND accepted|refused [RUNS]
+plays calls on the library: in the function `profiled` those of that kind and answer, in `others` all others
+  streams, work      random streams, or a cluster at work
+  N                  the cluster's size: 6, 9, 13, 18, 24 or 32
+  KIND               Vote, Commit, BlockCertificate, Timeout, TimeoutCertificate, Proposal, Block, Timer, Propose, or
+                     Foreign: a record of no kind that a replica takes
+  accepted, refused  the answer
+  RUNS               how many runs, 2 if not given
+  --help             prints this";
 
-fn main() {
-    let arguments: Vec<String> = std::env::args().skip(1).collect();
-    let [calls, n, kind, answer, rest @ ..] = &arguments[..] else { panic!("{USAGE}") };
-    let n: u64 = n.parse().expect("a number");
-    let settings =
-        size::SETTINGS.into_iter().find(|(f, c, k)| 3 * f + 2 * c + k + 1 == n).expect("a cluster of `size`");
-    let make = match calls.as_str() {
-        "streams" => stream,
-        "work" => work,
-        _ => panic!("{USAGE}"),
-    };
-    let kind = Kind::ALL.into_iter().find(|known| format!("{known:?}") == *kind).expect("a kind of call");
-    let runs: u64 = rest.first().map_or(2, |text| text.parse().expect("a number"));
-    let found: usize = (0..runs).map(|seed| run(make(settings, seed), kind, answer == "accepted")).sum();
-    println!("{found} calls");
+struct Asked {
+    make: fn(Settings, u64) -> Calls,
+    settings: Settings,
+    kind: Kind,
+    accepted: bool,
+    runs: u64,
 }
 
+impl Asked {
+    /// None where the arguments can't be read.
+    fn read(arguments: &[String]) -> Option<Asked> {
+        let [calls, n, kind, answer, rest @ ..] = arguments else { return None };
+        let n: u64 = n.parse().ok()?;
+        Some(Asked {
+            make: match calls.as_str() {
+                "streams" => stream,
+                "work" => work,
+                _ => return None,
+            },
+            settings: size::SETTINGS.into_iter().find(|(f, c, k)| 3 * f + 2 * c + k + 1 == n)?,
+            kind: Kind::ALL.into_iter().find(|known| format!("{known:?}") == *kind)?,
+            accepted: answer == "accepted",
+            runs: rest.first().map_or(Some(2), |text| text.parse().ok())?,
+        })
+    }
+}
+
+fn main() -> ExitCode {
+    help::answer(USAGE);
+    let arguments: Vec<String> = std::env::args().skip(1).collect();
+    let Some(Asked { make, settings, kind, accepted, runs }) = Asked::read(&arguments) else {
+        eprintln!("{USAGE}");
+        return ExitCode::FAILURE;
+    };
+    let found: usize = (0..runs).map(|seed| run(make(settings, seed), kind, accepted)).sum();
+    println!("{found} calls");
+    ExitCode::SUCCESS
+}
+
+type Settings = (u64, u64, u64);
 type Calls = (Opening, Vec<Call>);
 
-fn stream((f, c, k): (u64, u64, u64), seed: u64) -> Calls {
+fn stream((f, c, k): Settings, seed: u64) -> Calls {
     let opening = Opening::new(f, c, k, seed % (3 * f + 2 * c + k + 1)).expect("good settings");
     (opening, play(opening, seed, 1500, &mut Coverage::default()).calls)
 }
 
-fn work(settings: (u64, u64, u64), seed: u64) -> Calls {
+fn work(settings: Settings, seed: u64) -> Calls {
     let script = size::script(settings, seed);
     (script.opening, script.calls.into_iter().map(|(call, _)| call).collect())
 }
