@@ -8,4 +8,3 @@ pub mod Sets
 pub mod Backing
 pub mod Chosen
 pub mod Goods
-pub mod Known

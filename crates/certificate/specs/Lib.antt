@@ -2,4 +2,3 @@ pub mod Rank
 pub mod Good
 pub mod Safe
 pub mod Order
-pub mod Known

@@ -5,10 +5,9 @@ use native.Mathlib.Omega.{arith}
 use mathlib.Core.Path.{_≡_, refl, sym, ap, subst, _∙_}
 use mathlib.Core.Bool.{false, not, _&&_}
 use mathlib.Core.List.{List, [], _∷_, append-nil}
-use borrow.Author.Tests.{lt-leb, le-ltb, eq-eqb, ne-eqb}
+use borrow.Author.Tests.{eq-eqb, ne-eqb}
 use lib.Dec.{leb, lit<, lit≤}
 use lib.ListN.{length, take, set, replicate, length-replicate}
-use Rattle.settings.specs.Opening.{openingRules}
 use Rattle.codec.specs.Bytes.{IsBytes}
 use Rattle.codec.specs.Names.{nameLength, sameBytes, zeroName, lessBytes}
 use Rattle.codec.proofs.Order.{same-ne}
@@ -18,7 +17,7 @@ use Rattle.wire.specs.Encode.{certificateBytes, encode, joined}
 use Rattle.wire.specs.Fit.{IsName, All, CertificateFits, Fits, CertificateProper, Proper}
 use Rattle.wire.proofs.Tables.{stands-encode}
 use Rattle.wire.proofs.Contents.{certificate-back}
-use Rattle.wire.proofs.Facts.{Quiet, off-judge}
+use Rattle.wire.proofs.Facts.{Quiet}
 use Rattle.certificate.specs.Rank.{outranks, adopted}
 use Rattle.certificate.specs.Good.{isGood, progressGood}
 use Rattle.certificate.specs.Safe.{safeCertificate}
@@ -38,11 +37,11 @@ use Rattle.protocol.specs.Typed.{BlockTyped}
 use Rattle.protocol.specs.Refusals.{storeLength, noRoom, refusals}
 use Rattle.protocol.specs.Events.{propositionOf, onRecord}
 use Rattle.protocol.specs.Applies.{Done, Turns, rest}
-use Rattle.protocol.specs.Calls.{Replica, begin, openingCore}
+use Rattle.protocol.specs.Calls.{Replica, begin}
 use Rattle.protocol.specs.OneChain.{Opened}
 use Rattle.protocol.specs.Example.{six, lentMemory, lentStore, openedAs, blockName, theProposal, voteOf}
 use Rattle.protocol.proofs.Typing.{zero-is-name}
-use Rattle.protocol.proofs.Opened.{Openable, openedWork, opened-settings, opened-own, opened-count, opened-none, opened-regular}
+use Rattle.protocol.proofs.Opened.{Openable, openedWork, opened-settings, opened-own, opened-count, opened-none, opened-regular, opening-takes}
 use Rattle.protocol.proofs.Regular.{Regular, Still}
 use Rattle.protocol.proofs.OneCall.{RegularReplica, begin-regular}
 use Rattle.protocol.proofs.Records.{vote-framed}
@@ -100,7 +99,6 @@ opened-is-regular : (i : ℕ) → i < 6 → RegularReplica (openedAs i)
 opened-is-regular i h = opened-regular lentMemory lentStore six i (openable i h) lent-bytes lent-typed lent-long lent-many
 
 pub is-opened : (i : ℕ) → i < 6 → Opened six i (openedAs i)
-unfolding openingCore openingRules
 is-opened i h =
     record {
       lent = record { counters = opened; memory = lentMemory; store = lentStore };
@@ -108,7 +106,7 @@ is-opened i h =
       memory = lent-bytes;
       store = lent-typed;
       work = openedWork lentMemory lentStore six i;
-      opens = off-judge _ _ _ .1 ((refl, (refl, (refl, (lt-leb 6 i h, (le-ltb _ _ lent-long, (le-ltb _ _ lent-many, tt)))))), refl);
+      opens = opening-takes (record { counters = opened; memory = lentMemory; store = lentStore }) six i (openable i h) lent-long lent-many;
       leaves = refl;
     }
 

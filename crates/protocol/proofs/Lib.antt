@@ -50,3 +50,4 @@ pub mod ExampleVotes
 pub mod ExampleEntries
 pub mod Example
 pub mod Listing
+pub mod Known

@@ -5,19 +5,17 @@ use native.Mathlib.Omega.{arith}
 use mathlib.Core.Path.{_≡_, refl, sym, ap, _∙_}
 use mathlib.Core.Bool.{Bool, true, false, cond, false≢true}
 use mathlib.Core.Logic.{⊎-elim}
-use mathlib.Core.List.{List, [], _∷_, _++_}
-use borrow.Author.Tests.{le-ltb, eqb-true, eqb-false}
+use mathlib.Core.List.{List, []}
+use borrow.Author.Tests.{eqb-true, eqb-false}
 use lib.Dec.{eqb, lit<, lit≤}
 use lib.ListN.{length}
 use Rattle.settings.specs.declared.Settings.{Settings}
 use Rattle.settings.specs.Quorum.{replicas, blockQuorum, timeoutQuorum, slowQuorum, fastQuorum}
-use Rattle.settings.specs.Opening.{openingRules}
-use Rattle.settings.specs.Answer.{accepts, refuses, Rule, judge}
+use Rattle.settings.specs.Answer.{accepts, refuses, judge}
 use Rattle.codec.specs.Bytes.{IsBytes}
 use Rattle.wire.specs.Fields.{timeoutLength}
 use Rattle.wire.specs.Encode.{timeoutBytes}
 use Rattle.wire.specs.Fit.{All}
-use Rattle.wire.proofs.Facts.{Quiet, off-judge}
 use Rattle.wire.proofs.Lengths.{length-timeout}
 use Rattle.memory.specs.Layout.{memoryLength, timeoutRow, voteRow, commitRow, timeoutsPlace, settingsOf, ownOf}
 use Rattle.memory.specs.Kept.{has, keep, keptCount}
@@ -32,22 +30,17 @@ use Rattle.protocol.specs.Work.{Work, settings, n, own, ownTimeout, keep
 use Rattle.protocol.specs.Typed.{BlockTyped}
 use Rattle.protocol.specs.Refusals.{storeLength, outputLength, regionRules, timerRules, proposeRules}
 use Rattle.protocol.specs.Applies.{Done, rest}
-use Rattle.protocol.specs.Calls.{Replica, begin, timerCore, proposeCore, openingCore, Outcome, outcome, timerCall, proposeCall, openingCall, openedMemory}
+use Rattle.protocol.specs.Calls.{Replica, begin, timerCore, proposeCore, Outcome, outcome, timerCall, proposeCall, openingCall, openedMemory}
 use Rattle.protocol.specs.OneCall.{left}
 use Rattle.protocol.specs.Example.{six, blockName}
 use Rattle.protocol.specs.Listing.{linesOf, printed}
 use Rattle.protocol.proofs.Regular.{Regular}
 use Rattle.protocol.proofs.Actions.{own-timeout-fits, timeout-regular}
-use Rattle.protocol.proofs.Opened.{Openable, openedWork, opened-settings, opened-own, opened-none, opened-regular}
+use Rattle.protocol.proofs.Opened.{Openable, openedWork, opened-settings, opened-own, opened-none, opened-regular, opening-takes}
 use Rattle.protocol.proofs.OneCall.{RegularReplica, regular-regions, begin-regular}
 use Rattle.protocol.proofs.Loop.{loop-ends}
+use Rattle.protocol.proofs.Regions.{judge-past}
 use Rattle.protocol.proofs.ExampleRows.{nobody, stays, joins}
-
--- rules that do not apply are passed over
-judge-past : {A : Type 0} (a : A) (rules more : List Rule) → Quiet rules → judge (rules ++ more) a ≡ judge more a
-unfolding judge
-judge-past a [] more q = refl
-judge-past a (r ∷ rules) more q = rw (q .0) (judge-past a rules more (q .1))
 
 -- ---- one timeout in view 1's row, and nothing else: no row has more than one entry
 module _ (m e : List ℕ) (b : IsBytes m) (long : memoryLength ≤ length m) (l : length e ≡ timeoutLength) (none : (t : Table) (v j : ℕ) → has m (rowOf t v) j ≡ false) where
@@ -95,8 +88,8 @@ module _ (lent : Replica) (b : IsBytes (lent .memory)) (typed : All BlockTyped (
   r₀ = record { counters = opened; memory = m₀; store = lent .store }
 
   opening-is : openingCall lent 1 1 0 6 1 ≡ outcome lent [] (accepts (openedWork (lent .memory) (lent .store) six 1))
-  unfolding openingCall openingCore openingRules
-  opening-is = ap (outcome lent []) (off-judge _ _ _ .1 ((refl, (refl, (refl, (refl, (le-ltb _ _ long, (le-ltb _ _ many, tt)))))), refl))
+  unfolding openingCall
+  opening-is = ap (outcome lent []) (opening-takes lent six 1 openable long many)
 
   R₀ : RegularReplica r₀
   R₀ = opened-regular (lent .memory) (lent .store) six 1 openable b typed long many

@@ -3,9 +3,9 @@
 use Prim.Native.Nat.{ℕ, _+_, _^_, _≤_, _<_}
 use native.Mathlib.Omega.{arith}
 use mathlib.Core.Path.{_≡_, refl, sym, ap, _∙_}
-use mathlib.Core.Bool.{true, false}
+use mathlib.Core.Bool.{true, false, not}
 use mathlib.Core.List.{List, [], _++_}
-use borrow.Author.Tests.{ltb-false, leb-false, eqb-true, not-false}
+use borrow.Author.Tests.{ltb-false, leb-false, eqb-true, not-false, le-ltb, lt-leb, eq-eqb}
 use lib.Dec.{lit<, lit≤}
 use lib.ListN.{length, length-append}
 use Rattle.settings.specs.declared.Settings.{Settings}
@@ -201,3 +201,10 @@ opening-accepts r f c k n own W e =
       store = ltb-false _ _ (t .1 .1 .1 .1 .1 .0);
       left = sym (q .1);
     }
+
+-- and the other way round: settings that can be opened, over regions that are long enough
+pub opening-takes : (r : Replica) (s : Settings) (own : ℕ) → Openable s own → memoryLength ≤ length (r .memory) → storeLength ≤ length (r .store)
+    → openingCore r (s .f) (s .c) (s .k) (replicas s) own ≡ accepts (openedWork (r .memory) (r .store) s own)
+unfolding openingCore openingRules
+opening-takes r s own o long many =
+    off-judge _ _ _ .1 ((ap not (eq-eqb (replicas s) (replicas s) refl), (le-ltb _ _ (o .few), (ap not (o .bound), (lt-leb _ _ (o .member), (le-ltb _ _ long, (le-ltb _ _ many, tt)))))), refl)

@@ -21,6 +21,12 @@ use Rattle.protocol.specs.OneCall.{Call, receive, timer, propose, callOn
 use Rattle.protocol.proofs.Regular.{Regular}
 use Rattle.protocol.proofs.OneCall.{RegularReplica, regular-regions, regular-passes, coreOf, call-is, reply-refuses, calls-keep, calls-same, opening-accepted}
 
+-- ---- rules that do not apply are passed over
+pub judge-past : {A : Type 0} (a : A) (rules more : List Rule) → Quiet rules → judge (rules ++ more) a ≡ judge more a
+unfolding judge
+judge-past a [] more q = refl
+judge-past a (r ∷ rules) more q = rw (q .0) (judge-past a rules more (q .1))
+
 -- ---- rules that give another number
 abbrev Other : ℕ → List Rule → Type 0
 Other b rules = All (λ (r : Rule). r .number ≡ b → ⊥) rules
@@ -35,13 +41,8 @@ module _ {A : Type 0} (a : A) (b : ℕ) where
       go true f g = h .0 (let z : r .number ≡ b = cc in z)
       go false f g = f g
 
-  judge-behind : (rules more : List Rule) → Quiet rules → judge (rules ++ more) a ≡ judge more a
-  unfolding judge
-  judge-behind [] more q = refl
-  judge-behind (r ∷ rules) more q = rw (q .0) (judge-behind rules more (q .1))
-
   judge-quiet : (rules more : List Rule) → Quiet rules → Other b more → judge (rules ++ more) a ≡ refuses b → ⊥
-  judge-quiet rules more q h e = judge-other more h (sym (judge-behind rules more q) ∙ e)
+  judge-quiet rules more q h e = judge-other more h (sym (judge-past a rules more q) ∙ e)
 
 other-append : (b : ℕ) (s t : List Rule) → Other b s → Other b t → Other b (s ++ t)
 unfolding All

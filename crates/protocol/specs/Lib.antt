@@ -10,3 +10,4 @@ pub mod Whole
 pub mod OneChain
 pub mod Example
 pub mod Listing
+pub mod Known
