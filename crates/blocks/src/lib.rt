@@ -1,6 +1,7 @@
 // Blocks and the store of blocks, lent as a slice of structs: search, fill, the walk from parent to parent, releases, drop.
-// Promises: each function does what its definition in specs/Store.antt says of the first `count` entries, on any content; only `release` asks
-// something, that the block descends and that its records have room. proofs/{Filled, Ancestry, Linked, Kept}.antt have the laws.
+// Promises: each function does what its definition in specs/Store.antt says of the first `count` entries, on any content. Of the public ones only
+// `release` asks something, that the block descends and that its records have room; the others ask of their callers here that a place lies inside
+// the store or the output, and that verdicts noted so far are true. proofs/{Filled, Ancestry, Linked, Kept}.antt have the laws.
 // Rests on `codec`, `wire`, the bits of `certificate` and the shared modules of `walks`. Every decision is a function by value; the others move whole blocks.
 ghost use mathlib.Core.Path.{_≡_};
 ghost use mathlib.Core.Bool.{true, false, cond};

@@ -9,7 +9,7 @@ ghost use Prim.Native.Nat.{_+_, _≤_};
 ghost use lib.ListN.{length, replicate};
 ghost use Rattle.codec.specs.Bytes.{part, patch};
 
-// Every run of stores goes through this one loop.
+// The bytes v, from place at on. Names are written through it; numbers by `num::put_le`, and zeros by `clear`, have loops of their own.
 pub fn put(mem: &mut [u8], at: usize, v: &[u8])
     requires { ⌜ at + length (now v) ≤ length (now mem) ⌝ }
     ensures { λ _. ⌜ now (mem .exit) ≡ patch (now (mem .entry)) at (now (v .entry)) ⌝ }

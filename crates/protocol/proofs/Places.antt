@@ -9,7 +9,7 @@ use Rattle.wire.specs.Content.{byBlock, byTimeouts, Content, vote, commit, cert
 use Rattle.wire.specs.Shape.{shapeRules}
 use Rattle.protocol.specs.Work.{Work}
 use Rattle.protocol.specs.Refusals.{regionRules, refusals, timerRules, proposeRules}
-use Rattle.protocol.specs.Calls.{_then_}
+use Rattle.protocol.specs.Calls.{Replica, _then_, lengthRules}
 use Rattle.protocol.specs.OneCall.{InOrder}
 
 -- 6 to 14, by kind; a release, which the place "shape" turns away with 4, has that answer alone
@@ -53,7 +53,7 @@ pub propose-in-order : (W : Work) (room : ℕ) (x : List ℕ) → InOrder 2 (reg
 unfolding InOrder regionRules proposeRules
 propose-in-order W room x = omega arith
 
--- 1, then 2
-pub opening-in-order : (s : Settings) (m own : ℕ) → InOrder 1 (openingRules s m own)
+-- 1, then 2: the whole list of an opening
+pub opening-in-order : (r : Replica) (s : Settings) (m own : ℕ) → InOrder 1 (openingRules s m own then lengthRules r)
 unfolding InOrder openingRules
-opening-in-order s m own = omega arith
+opening-in-order r s m own = omega arith

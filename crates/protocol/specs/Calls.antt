@@ -56,10 +56,14 @@ openedMemory m s own =
     let h = patch m 0 (leBytes 2 (s .f) ++ leBytes 2 (s .c) ++ leBytes 2 (s .k) ++ leBytes 2 own) in
     withoutTimeouts (withoutBallots (withEntry (withBlockCount h 0) (blockCertificateBytes own 0 zeroName 0)) 0 8) 0 4
 
+-- 2, of an opening: nothing is asked but the lengths of memory and store
+abbrev pub lengthRules : Replica → List Rule
+lengthRules r = ltb (length (r .memory)) memoryLength ⇒ 2 ∷ ltb (length (r .store)) storeLength ⇒ 2 ∷ []
+
 unfoldable pub openingCore : Replica → ℕ → ℕ → ℕ → ℕ → ℕ → Answer Work
 openingCore r f c k n own =
     let s : Settings = record { f = f; c = c; k = k } in
-    judge (openingRules s n own then (ltb (length (r .memory)) memoryLength ⇒ 2 ∷ ltb (length (r .store)) storeLength ⇒ 2 ∷ []))
+    judge (openingRules s n own then lengthRules r)
     (record { counters = opened; memory = openedMemory (r .memory) s own; store = r .store; out = [] })
 
 -- ---- the outcome: the reply, and each region afterwards. "Answer 0 is acceptance, returned with the number of bytes written; the bytes after them stay."

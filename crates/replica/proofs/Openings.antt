@@ -17,12 +17,12 @@ use Rattle.counters.specs.Counters.{opened}
 use Rattle.blocks.specs.declared.Block.{Block}
 use Rattle.protocol.specs.Work.{Work}
 use Rattle.protocol.specs.Refusals.{storeLength}
-use Rattle.protocol.specs.Calls.{Replica, Outcome, outcome, openedMemory, openingCore, openingCall}
+use Rattle.protocol.specs.Calls.{Replica, Outcome, outcome, openedMemory, lengthRules, openingCore, openingCall}
 use Rattle.refusals.specs.Number.{answerOf}
 use Rattle.replica.specs.declared.Opened.{Opened}
 use Rattle.replica.specs.declared.Reply.{Reply}
 use Rattle.replica.specs.Reply.{replyOf, lentTo, replied, repliedBy}
-use Rattle.replica.specs.Openings.{openedOutcome, lengthRules, admitted}
+use Rattle.replica.specs.Openings.{openedOutcome, admitted}
 
 -- ---- the lengths
 module _ (R : Replica) (s : Settings) (own : ℕ) where

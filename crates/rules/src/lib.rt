@@ -80,7 +80,8 @@ pub fn rule_b(mem: &mut [u8], out: &mut [u8], d: Draft, view: u64) -> Draft
     form_timeouts(mem, out, d, view)
 }
 
-// The least name of a view that a block quorum of kept votes backs, if there is one.
+// The smallest name of a view for which a block quorum of votes is kept, if there is one. More commits than there are replicas are asked for, so
+// that only votes decide.
 fn most_voted(mem: &[u8], view: u64) -> Choice
     requires { ⌜ (memoryLength ≤ length (now mem)) × (replicas (settingsOf (now mem)) ≤ largest) ⌝ }
     ensures { λ r. ⌜ r ≡ nextDecided (now (mem .entry)) (votesWanted (now (mem .entry)) view) noChoice ⌝ }
