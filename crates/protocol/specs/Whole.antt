@@ -1,4 +1,4 @@
--- The records that a call writes (01: Records; Refusals, 3, 4, 5): what one says, that it reads back to it, and that the others take it. Assumes nothing.
+-- The records that a call writes (01: Records; Refusals, 3, 4, 5): what one says, that it reads back to it, and that it passes 3, 4 and 5. Assumes nothing.
 use Prim.Native.Nat.{ℕ, _<_}
 use mathlib.Core.Path.{_≡_}
 use mathlib.Core.Logic.{_⊎_}
