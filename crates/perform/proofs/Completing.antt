@@ -2,8 +2,10 @@
 use Prim.Native.Nat.{ℕ, _+_, _^_, _≤_, _<_}
 use native.Mathlib.Omega.{arith}
 use mathlib.Core.Path.{_≡_, refl, sym, ap, _∙_}
+use mathlib.Core.Bool.{Bool, true, false, not}
 use mathlib.Core.List.{List}
-use borrow.Author.Tests.{ltb-false, not-false}
+use borrow.Author.Tests.{ltb-false, eqb-true, eqb-false, not-true, not-false}
+use lib.Dec.{eqb}
 use lib.ListN.{length}
 use Rattle.codec.specs.Bytes.{IsBytes}
 use Rattle.wire.specs.Fit.{IsU64}
@@ -54,6 +56,17 @@ pub timer-ready : (d : Draft) (m o : List ℕ) (v : ℕ) {e : Event} {m₁ o₁ 
     → Gives (onTimer v) Always d m o e m₁ o₁ → Ready (e .draft) m₁ o₁ (rulesRoom + releasesRoom)
 timer-ready d m o v u t b r a =
     event-ready (onTimer v) Always a emptyStore (omega arith) tt r (timer-done (workOf d m o emptyStore) v u (ready-regular d m o r t b))
+
+-- ---- what `ends` says of a number: it is a refusal's, or the call goes on
+module _ {c : Counters} {k : ℕ} {z : own.Done} {b : Bool} (e : z ≡ refusal c k) (s : b ≡ not (eqb (z .refusal) 0)) where
+  number-ends : b ≡ not (eqb k 0)
+  number-ends = s ∙ ap (λ (y : own.Done). not (eqb (y .refusal) 0)) e
+
+  pub ended : b ≡ true → k ≡ 0 → ⊥
+  ended t = eqb-false k 0 (not-true (eqb k 0) (sym number-ends ∙ t))
+
+  pub went-on : b ≡ false → k ≡ 0
+  went-on t = eqb-true k 0 (not-false (eqb k 0) (sym number-ends ∙ t))
 
 -- ---- a call, refused or completed
 pub completes-given : (f : Work → Work) (given given₁ : Work → Type 0) {d : Draft} {m o : List ℕ} {z : own.Done} {m₁ o₁ : List ℕ} → ((s : List Block) → given₁ (workOf d m o s) → given (workOf d m o s))

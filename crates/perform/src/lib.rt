@@ -17,7 +17,9 @@ use memory::block_count;
 use rules::phases::run;
 use settings::Height;
 ghost use mathlib.Core.Path.{_≡_};
+ghost use mathlib.Core.Bool.{not};
 ghost use Prim.Native.Nat.{_+_};
+ghost use lib.Dec.{eqb};
 ghost use lib.ListN.{length};
 ghost use Rattle.wire.specs.Content.{content};
 ghost use Rattle.memory.specs.Layout.{blockCountOf};
@@ -56,6 +58,13 @@ fn refused(c: Counters, number: u64) -> Done
     }
 }
 
+// A refusal ends the call.
+fn ends(d: Done) -> bool
+    ensures { λ r. ⌜ r ≡ not (eqb (d .refusal) 0) ⌝ }
+{
+    d.refusal != 0
+}
+
 // The rules after an event, and the number of held blocks.
 fn finish(mem: &mut [u8], out: &mut [u8], d: Draft, place: usize, block: Block) -> Done
     requires { ⌜ Ready d (now mem) (now out) (rulesRoom + releasesRoom) ⌝ }
@@ -84,8 +93,9 @@ pub fn timer(c: Counters, mem: &mut [u8], out: &mut [u8], number: u64, view: u64
     requires { ⌜ Lent (TimerJudged (length (now out)) view number) (lent c (now mem)) ⌝ }
     ensures { λ r. ⌜ Performs (timerNumber (length (now (out .entry))) view) (onTimer view) (TimerJudged (length (now (out .entry))) view number) c (now (mem .entry)) (now (out .entry)) r (now (mem .exit)) (now (out .exit)) ⌝ }
 {
-    if number != 0 {
-        return refused(c, number);
+    let judged = refused(c, number);
+    if ends(judged) {
+        return judged;
     }
     let d = Draft { counters: c, at: 0 };
     timer_accepted(mem, out, d, view)
@@ -112,12 +122,13 @@ pub fn propose(
     requires { ⌜ Lent (ProposeFound (length (now out)) name want found under) (lent c (now mem)) ⌝ }
     ensures { λ r. ⌜ Performs (proposeNumber (length (now (out .entry))) name) (onPropose name) (ProposeFound (length (now (out .entry))) name want found under) c (now (mem .entry)) (now (out .entry)) r (now (mem .exit)) (now (out .exit)) ⌝ }
 {
-    if want.refusal != 0 {
-        return refused(c, want.refusal);
+    let early = refused(c, want.refusal);
+    if ends(early) {
+        return early;
     }
-    let late = propose_chain(want, found, under);
-    if late != 0 {
-        return refused(c, late);
+    let late = refused(c, propose_chain(want, found, under));
+    if ends(late) {
+        return late;
     }
     let d = Draft { counters: c, at: 0 };
     let lower = under.block;
@@ -145,12 +156,13 @@ pub fn record(
     requires { ⌜ Lent (RecordFound (length (now out)) (now rec) want found under) (lent c (now mem)) ⌝ }
     ensures { λ r. ⌜ Performs (recordNumber (length (now (out .entry))) (now (rec .entry))) (onRecord (now (rec .entry)) (content (now (rec .entry)))) (RecordFound (length (now (out .entry))) (now (rec .entry)) want found under) c (now (mem .entry)) (now (out .entry)) r (now (mem .exit)) (now (out .exit)) ⌝ }
 {
-    if want.refusal != 0 {
-        return refused(c, want.refusal);
+    let early = refused(c, want.refusal);
+    if ends(early) {
+        return early;
     }
-    let late = record_chain(rec, want, found, under);
-    if late != 0 {
-        return refused(c, late);
+    let late = refused(c, record_chain(rec, want, found, under));
+    if ends(late) {
+        return late;
     }
     let d = Draft { counters: c, at: 0 };
     record_accepted(mem, out, d, rec, found.is)
