@@ -5,8 +5,8 @@ use Prim.Native.Nat.{ℕ, _+_}
 use lib.ListN.{length, length-append}
 use Rattle.codec.proofs.Le.{length-leBytes}
 use Rattle.wire.specs.declared.Timeout.{Timeout}
-use Rattle.wire.specs.Fields.{headerLength, voteLength, blockCertificateLength, timeoutLength, timeoutsHead, proposalHead, blockLength, releaseLength}
-use Rattle.wire.specs.Encode.{headerBytes, voteBytes, blockCertificateBytes, timeoutBytes, timeoutsBytes, proposalBytes, blockBytes, releaseBytes, timeoutHead, timeoutsHeadBytes, proposalHeadBytes}
+use Rattle.wire.specs.Fields.{headerLength, voteLength, blockCertificateLength, timeoutLength, timeoutsHead, proposalHead, releaseLength}
+use Rattle.wire.specs.Encode.{headerBytes, voteBytes, blockCertificateBytes, timeoutBytes, timeoutsBytes, proposalBytes, releaseBytes, timeoutHead, timeoutsHeadBytes, proposalHeadBytes}
 use Rattle.wire.specs.Fit.{IsName, TimeoutFits}
 
 pub length-header : (size kind sender : ℕ) → length (headerBytes size kind sender) ≡ headerLength
@@ -40,10 +40,6 @@ module _ (x : List ℕ) (hx : IsName x) where
     pub length-proposal : (s v h : ℕ) (progress : List ℕ) → length (proposalBytes s v x y h progress) ≡ proposalHead + length progress
     unfolding proposalBytes
     length-proposal s v h progress = simp (length-append, length-header, length-leBytes, hx .size, hy .size)
-
-    pub length-block : (s h : ℕ) → length (blockBytes s x y h) ≡ blockLength
-    unfolding blockBytes
-    length-block s h = simp (length-append, length-header, length-leBytes, hx .size, hy .size)
 
 -- ---- what stands before an inner record
 pub length-timeout-head : (t : Timeout) → length (t .high .name) ≡ 32 → length (timeoutHead t) ≡ 56

@@ -6,8 +6,6 @@ use borrow.Author.Needs.{needs}
 use native.Mathlib.Omega.{arith}
 use Rattle.perform.proofs.finish.Statement.{statement}
 use Rattle.perform.proofs.finish.Tie as tie
-use Rattle.perform.proofs.finish.Reads as reads
-use Rattle.perform.proofs.finish.Lts as lts
 use Rattle.memory.proofs.block_count.Reads as block-count-reads
 use Rattle.rules.proofs.phases.run.Reads as run-reads
 

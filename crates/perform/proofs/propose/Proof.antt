@@ -3,8 +3,6 @@ use Rattle.perform.proofs.Completing.{ended, went-on}
 use borrow.Author.Needs.{needs}
 use Rattle.perform.proofs.propose.Statement.{statement}
 use Rattle.perform.proofs.propose.Tie as tie
-use Rattle.perform.proofs.propose.Reads as reads
-use Rattle.perform.proofs.propose.Lts as lts
 use Rattle.judge.proofs.chain.propose_chain.Reads as propose-chain-reads
 use Rattle.perform.proofs.propose_accepted.Reads as propose-accepted-reads
 use Rattle.perform.proofs.ends.Reads as ends-reads

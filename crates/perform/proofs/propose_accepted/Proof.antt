@@ -6,8 +6,6 @@ use Rattle.perform.proofs.Deciding.{propose-asks, propose-ready}
 use borrow.Author.Needs.{needs}
 use Rattle.perform.proofs.propose_accepted.Statement.{statement}
 use Rattle.perform.proofs.propose_accepted.Tie as tie
-use Rattle.perform.proofs.propose_accepted.Reads as reads
-use Rattle.perform.proofs.propose_accepted.Lts as lts
 use Rattle.event.proofs.host.on_propose.Reads as on-propose-reads
 use Rattle.perform.proofs.finish.Reads as finish-reads
 

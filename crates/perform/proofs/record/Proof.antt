@@ -3,8 +3,6 @@ use Rattle.perform.proofs.Completing.{ended, went-on}
 use borrow.Author.Needs.{needs}
 use Rattle.perform.proofs.record.Statement.{statement}
 use Rattle.perform.proofs.record.Tie as tie
-use Rattle.perform.proofs.record.Reads as reads
-use Rattle.perform.proofs.record.Lts as lts
 use Rattle.judge.proofs.chain.record_chain.Reads as record-chain-reads
 use Rattle.perform.proofs.record_accepted.Reads as record-accepted-reads
 use Rattle.perform.proofs.ends.Reads as ends-reads

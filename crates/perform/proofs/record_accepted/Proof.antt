@@ -5,8 +5,6 @@ use Rattle.perform.proofs.Deciding.{record-asks, record-ready}
 use borrow.Author.Needs.{needs}
 use Rattle.perform.proofs.record_accepted.Statement.{statement}
 use Rattle.perform.proofs.record_accepted.Tie as tie
-use Rattle.perform.proofs.record_accepted.Reads as reads
-use Rattle.perform.proofs.record_accepted.Lts as lts
 use Rattle.event.proofs.record.on_record.Reads as on-record-reads
 use Rattle.perform.proofs.finish.Reads as finish-reads
 

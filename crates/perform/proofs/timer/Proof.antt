@@ -6,8 +6,6 @@ use mathlib.Core.Path.{sym, _∙_}
 use borrow.Author.Needs.{needs}
 use Rattle.perform.proofs.timer.Statement.{statement}
 use Rattle.perform.proofs.timer.Tie as tie
-use Rattle.perform.proofs.timer.Reads as reads
-use Rattle.perform.proofs.timer.Lts as lts
 use Rattle.perform.proofs.ends.Reads as ends-reads
 use Rattle.perform.proofs.refused.Reads as refused-reads
 use Rattle.perform.proofs.timer_accepted.Reads as timer-accepted-reads

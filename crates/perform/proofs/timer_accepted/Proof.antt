@@ -7,8 +7,6 @@ use borrow.Author.Needs.{needs}
 use native.Mathlib.Omega.{arith}
 use Rattle.perform.proofs.timer_accepted.Statement.{statement}
 use Rattle.perform.proofs.timer_accepted.Tie as tie
-use Rattle.perform.proofs.timer_accepted.Reads as reads
-use Rattle.perform.proofs.timer_accepted.Lts as lts
 use Rattle.event.proofs.host.on_timer.Reads as on-timer-reads
 use Rattle.perform.proofs.finish.Reads as finish-reads
 
