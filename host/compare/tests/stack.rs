@@ -9,7 +9,7 @@ use oracle::lent::Rooms;
 use oracle::{wire, Block, Faults, Height, View, Vote};
 use streams::Call;
 
-/// What a call may take. Measured: 230,152 bytes where block 1 of a chain is released whose last two stand the wrong way round.
+/// What a call may take. Measured: 230,136 bytes where block 1 of a chain is released whose last two stand the wrong way round.
 const BOUND: usize = 240 * 1024;
 /// What is painted, and the thread's stack.
 const PAINTED: usize = 512 * 1024;
