@@ -10,7 +10,7 @@
     },
     'asks': [
         '(asked .0, (bounded (standing (knownBy v tip) m ys) (asked .1) .few, (bounded (standing (knownBy v tip) m ys) (asked .1) .view-first, bounded (standing (knownBy v tip) m ys) (asked .1) .view-last)))',
-        '(asked .0, (bounded (standing (knownBy v tip) m ys) (asked .1) .few, subst (λ (z : Place). z .view + z .views < 2 ^ 63) (sym e0) (first-within (v .0) m (bounded (standing (knownBy v tip) m ys) (asked .1) .view-last))))',
+        '(asked .0, (bounded (standing (knownBy v tip) m ys) (asked .1) .few, subst (λ (z : Place). z .view .0 + z .views < 2 ^ 63) (sym e0) (first-within (v .0) m (bounded (standing (knownBy v tip) m ys) (asked .1) .view-last))))',
     ],
     'says': ['(e1 ∙ ap (λ (z : Place). targetFrom z (seen tip m ys)) e0 ∙ sym (from-seen (firstPlace (v .0) m) (knownBy v tip) m ys) ∙ begins (standing (knownBy v tip) m ys) (bounded (standing (knownBy v tip) m ys) (asked .1) .few) (bounded (standing (knownBy v tip) m ys) (asked .1) .view-first) (bounded (standing (knownBy v tip) m ys) (asked .1) .view-last))'],
     'spec': {

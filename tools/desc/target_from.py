@@ -4,7 +4,7 @@
     'types': {'settings': 'blocks'},
     'about': 'It calls itself: the method of `mutual-elim`, at the steps that are left.',
     'params': ['m', 'ys', 'tip', 'p'],
-    'requires': '(memoryLength ≤ length {m}) × ((replicas (settingsOf {m}) ≤ largest) × ({p} .view + {p} .views < 2 ^ 63))',
+    'requires': '(memoryLength ≤ length {m}) × ((replicas (settingsOf {m}) ≤ largest) × ({p} .view .0 + {p} .views < 2 ^ 63))',
     'measure': 'p',
     'weight': 'stepsLeft',
     'callees': {

@@ -9,7 +9,7 @@
         'counters::opened': {'ens': None},
         'run::open_call': {'ens': None},
         'run::begin': {'ens': ''},
-        'run::play': {'ens': None},
+        'run::run_steps': {'ens': None},
     },
     'says': [''],
 }

@@ -13,7 +13,7 @@ use lib.Seq.{length-take-le}
 use Rattle.settings.specs.Quorum.{largest, replicas}
 use Rattle.codec.specs.Bytes.{IsBytes, part, patch, leNat, leBytes}
 use Rattle.codec.proofs.Laws.{length-part, length-patch, part-lent, part-drop, part-same, part-before, part-behind, patch-part, patch-patch}
-use Rattle.codec.proofs.Le.{length-leBytes, leBytes-leNat, leNat-leBytes}
+use Rattle.codec.proofs.Le.{bytes-part, length-leBytes, leBytes-leNat, leNat-leBytes}
 use Rattle.wire.specs.Fields.{kindOf, senderOf, viewOf, nameOf, countOf}
 use Rattle.wire.specs.declared.BlockCertificate.{BlockCertificate}
 use Rattle.wire.specs.declared.TimeoutCertificate.{TimeoutCertificate}
@@ -22,7 +22,6 @@ use Rattle.wire.specs.declared.Progress.the-variants.{Block, Timeouts}
 use Rattle.wire.specs.Content.{Certificate, certificateOf, byBlock, byTimeouts, progressAt, progressMeans, Within}
 use Rattle.wire.proofs.Certificates.{progress-means, Stands, within, block-kind}
 use Rattle.wire.specs.Encode.{voteBytes}
-use Rattle.wire.proofs.Rows.{bytes-part}
 use Rattle.certificate.specs.Safe.{safeCertificate}
 use Rattle.blocks.specs.declared.Block.{Block as Held}
 use Rattle.memory.specs.Layout.{entryRoom, settingsOf, ownOf, withEntry}

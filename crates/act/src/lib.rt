@@ -18,6 +18,7 @@ use settings::View;
 use wire::Carried;
 use wire::Timeout;
 use wire::Vote;
+use wire::length;
 use wire::write::put_timeout;
 use wire::write::put_vote;
 ghost use mathlib.Core.Path.{_≡_};
@@ -31,41 +32,35 @@ pub struct Draft {
 }
 
 // A vote is written, kept, and made the high vote.
-pub fn send_vote(mem: &mut [u8], out: &mut [u8], d: Draft, view: u64, name: [u8; 32]) -> Draft
+pub fn send_vote(mem: &mut [u8], out: &mut [u8], d: Draft, view: View, name: [u8; 32]) -> Draft
     requires { ⌜ Ready d (now mem) (now out) 48 ⌝ }
-    ensures { λ r. ⌜ Does (sendVote view name) d (now (mem .entry)) (now (out .entry)) r (now (mem .exit)) (now (out .exit)) ⌝ }
+    ensures { λ r. ⌜ Does (sendVote (view .0) name) d (now (mem .entry)) (now (out .entry)) r (now (mem .exit)) (now (out .exit)) ⌝ }
 {
     let me = own(mem);
-    let vote = Vote {
-        view: View(view),
-        name,
-    };
+    let vote = Vote { view, name };
     let counters = d.counters;
     let at = d.at;
     put_vote(out, at, 1, me, vote);
     keep(mem, vote_row(view), me as usize, &name);
     Draft {
         counters: voting(counters, vote),
-        at: at + 48,
+        at: at + length::VOTE,
     }
 }
 
-pub fn send_commit(mem: &mut [u8], out: &mut [u8], d: Draft, view: u64, name: [u8; 32]) -> Draft
+pub fn send_commit(mem: &mut [u8], out: &mut [u8], d: Draft, view: View, name: [u8; 32]) -> Draft
     requires { ⌜ Ready d (now mem) (now out) 48 ⌝ }
-    ensures { λ r. ⌜ Does (sendCommit view name) d (now (mem .entry)) (now (out .entry)) r (now (mem .exit)) (now (out .exit)) ⌝ }
+    ensures { λ r. ⌜ Does (sendCommit (view .0) name) d (now (mem .entry)) (now (out .entry)) r (now (mem .exit)) (now (out .exit)) ⌝ }
 {
     let me = own(mem);
-    let vote = Vote {
-        view: View(view),
-        name,
-    };
+    let vote = Vote { view, name };
     let counters = d.counters;
     let at = d.at;
     put_vote(out, at, 2, me, vote);
     keep(mem, commit_row(view), me as usize, &name);
     Draft {
         counters,
-        at: at + 48,
+        at: at + length::VOTE,
     }
 }
 
@@ -93,30 +88,35 @@ fn carried(k: Certificate) -> Carried
 }
 
 // Own timeout of a view: the high vote, and the higher of lock and best weak.
-fn own_timeout(c: Counters, me: u16, view: u64) -> Timeout
-    ensures { λ r. ⌜ r ≡ timeoutBy c me view ⌝ }
+fn own_timeout(c: Counters, me: u16, view: View) -> Timeout
+    ensures { λ r. ⌜ r ≡ timeoutBy c me (view .0) ⌝ }
 {
     let high = c.high;
     Timeout {
         sender: me,
-        view: View(view),
+        view,
         high,
         carried: carried(locks(c).highest()),
     }
 }
 
 // A timeout is written and kept, and the view is timed.
-pub fn send_timeout(mem: &mut [u8], out: &mut [u8], d: Draft, view: u64) -> Draft
+pub fn send_timeout(mem: &mut [u8], out: &mut [u8], d: Draft, view: View) -> Draft
     requires { ⌜ Ready d (now mem) (now out) 112 ⌝ }
-    ensures { λ r. ⌜ Does (sendTimeout view) d (now (mem .entry)) (now (out .entry)) r (now (mem .exit)) (now (out .exit)) ⌝ }
+    ensures { λ r. ⌜ Does (sendTimeout (view .0)) d (now (mem .entry)) (now (out .entry)) r (now (mem .exit)) (now (out .exit)) ⌝ }
 {
     let me = own(mem);
     let counters = d.counters;
     let at = d.at;
     put_timeout(out, at, own_timeout(counters, me, view));
-    keep(mem, timeout_row(view), me as usize, &out[at..at + 112]);
+    keep(
+        mem,
+        timeout_row(view),
+        me as usize,
+        &out[at..at + length::TIMEOUT],
+    );
     Draft {
-        counters: timing(counters, View(view)),
-        at: at + 112,
+        counters: timing(counters, view),
+        at: at + length::TIMEOUT,
     }
 }

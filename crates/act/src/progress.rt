@@ -47,11 +47,11 @@ fn advance(mem: &mut [u8], out: &[u8], d: Draft, size: usize) -> Draft
     let at = d.at;
     let old = d.counters;
     let counters = adopt_safe(mem, old, &out[at..at + size]);
-    let next = u64_at(out, at + 8) + 1;
-    enter(mem, counters.view.0, next);
+    let next = View(u64_at(out, at + 8) + 1);
+    enter(mem, counters.view, next);
     put_entry(mem, &out[at..at + size]);
     Draft {
-        counters: entering(counters, View(next)),
+        counters: entering(counters, next),
         at: at + size,
     }
 }
@@ -66,7 +66,7 @@ fn commit_after(mem: &mut [u8], out: &mut [u8], d: Draft, b: BlockCertificate) -
     let at = b.place;
     if c.timed.0 < view.0 {
         let name = name_at(out, at + 16);
-        return send_commit(mem, out, d, view.0, name);
+        return send_commit(mem, out, d, view, name);
     }
     d
 }

@@ -48,8 +48,8 @@ next-most true at = omega arith
 next-most false at = omega arith
 
 -- what the drop leaves: r, the place behind what is kept from place i on, and w, the entries then
-abbrev pub Swept : Block → List Block → List Block → ℕ → ℕ → ℕ → List Block → Type 0
-Swept tip store entries i at r w = (r ≡ at + length (keptFrom tip store i)) × (w ≡ sets entries at (keptFrom tip store i))
+abbrev pub Stored : Block → List Block → List Block → ℕ → ℕ → ℕ → List Block → Type 0
+Stored tip store entries i at r w = (r ≡ at + length (keptFrom tip store i)) × (w ≡ sets entries at (keptFrom tip store i))
 
 kept-cons : (tip : Block) (store : List Block) (i : ℕ) → i < length store
     → keptFrom tip store i ≡ cond (descends tip store (getD store i genesis)) (getD store i genesis ∷ keptFrom tip store (i + 1)) (keptFrom tip store (i + 1))
@@ -60,15 +60,15 @@ kept-cons tip store i h =
     ap (only (descends tip store)) (drop-cons store i genesis h)
     ∙ ap (λ (k : ℕ). cond (descends tip store b) (b ∷ only (descends tip store) (drop k store)) (only (descends tip store) (drop k store))) next
 
-pub swept-none : (tip : Block) (store entries : List Block) (i at : ℕ) → length store ≤ i → Swept tip store entries i at at entries
+pub stored-none : (tip : Block) (store entries : List Block) (i at : ℕ) → length store ≤ i → Stored tip store entries i at at entries
 unfolding keptFrom only
-swept-none tip store entries i at h =
+stored-none tip store entries i at h =
     let none : keptFrom tip store i ≡ [] = ap (only (descends tip store)) (drop-of-length-le store h) in
     (omega (arith, ap length none), ap (sets entries at) (sym none))
 
 more-by : (tip : Block) (store entries : List Block) (i at r : ℕ) (v w : List Block) (b : Block) (t : Bool) → length entries < 2 ^ 64
     → keptFrom tip store i ≡ cond t (b ∷ keptFrom tip store (i + 1)) (keptFrom tip store (i + 1))
-    → Swept tip store entries (i + 1) (spotOf t at .next) r v → w ≡ set v (spotOf t at .at) b → Swept tip store entries i at r w
+    → Stored tip store entries (i + 1) (spotOf t at .next) r v → w ≡ set v (spotOf t at .at) b → Stored tip store entries i at r w
 more-by tip store entries i at r v w b true room e before here =
     let row = keptFrom tip store (i + 1) in
     let next : at + 1 ≡ suc at = omega arith in (
@@ -82,11 +82,11 @@ more-by tip store entries i at r v w b false room e before here =
       here ∙ set-out v (2 ^ 64 - 1) b (omega (arith, size, room)) ∙ before .1 ∙ ap (sets entries at) (sym e),
     )
 
--- the entry at place i is judged, what lies behind it is swept, and it is stored
-pub swept-more : (tip : Block) (n : ℕ) (entries : List Block) (i at r : ℕ) (v w : List Block) (b : Block) (t : Bool) (s : Spot) → length entries < 2 ^ 64 → i < length (take n entries)
+-- the entry at place i is judged, what lies behind it is stored, and it is stored
+pub stored-more : (tip : Block) (n : ℕ) (entries : List Block) (i at r : ℕ) (v w : List Block) (b : Block) (t : Bool) (s : Spot) → length entries < 2 ^ 64 → i < length (take n entries)
     → b ≡ getD entries i genesis → t ≡ descends tip (take n entries) b → s ≡ spotOf t at
-    → Swept tip (take n entries) entries (i + 1) (s .next) r v → w ≡ set v (s .at) b → Swept tip (take n entries) entries i at r w
-swept-more tip n entries i at r v w b t s room within is-b is-t is-s before here =
+    → Stored tip (take n entries) entries (i + 1) (s .next) r v → w ≡ set v (s .at) b → Stored tip (take n entries) entries i at r w
+stored-more tip n entries i at r v w b t s room within is-b is-t is-s before here =
     let store = take n entries in
     let within-n : i < n = omega (arith, within, held-within n entries .0) in
     let is : getD store i genesis ≡ b = getD-take n entries i genesis within-n ∙ sym is-b in
@@ -94,13 +94,13 @@ swept-more tip n entries i at r v w b t s room within is-b is-t is-s before here
     (kept-cons tip store i within
     ∙ ap (λ (z : Block). cond (descends tip store z) (z ∷ keptFrom tip store (i + 1)) (keptFrom tip store (i + 1))) is
     ∙ ap (λ (z : Bool). cond z (b ∷ keptFrom tip store (i + 1)) (keptFrom tip store (i + 1))) (sym is-t))
-    (subst (λ (z : Spot). Swept tip store entries (i + 1) (z .next) r v) is-s before)
+    (subst (λ (z : Spot). Stored tip store entries (i + 1) (z .next) r v) is-s before)
     (here ∙ ap (λ (z : Spot). set v (z .at) b) is-s)
 
 -- all entries
-pub swept-all : (tip : Block) (n : ℕ) (entries : List Block) (r : ℕ) (w : List Block) → Swept tip (take n entries) entries 0 0 r w → (r ≡ length (kept tip (take n entries))) × (w ≡ dropped tip n entries)
+pub stored-all : (tip : Block) (n : ℕ) (entries : List Block) (r : ℕ) (w : List Block) → Stored tip (take n entries) entries 0 0 r w → (r ≡ length (kept tip (take n entries))) × (w ≡ dropped tip n entries)
 unfolding keptFrom kept dropped
-swept-all tip n entries r w all =
+stored-all tip n entries r w all =
     let k = only (descends tip (take n entries)) (take n entries) in
     let fits : 0 + length k ≤ length entries = omega (arith, length-only (descends tip (take n entries)) (take n entries), held-within n entries .1) in
     let none : 0 + length k ≡ length k = omega arith in

@@ -19,6 +19,9 @@ use settings::Height;
 use settings::View;
 use wire::Release;
 
+// The store that a host lends has at least so many entries, and no more are held.
+pub const STORE_LENGTH: usize = 128;
+
 #[repr(C)]
 pub struct Block {
     pub name: [u8; 32],
@@ -203,7 +206,7 @@ pub fn descends(store: &[Block], count: usize, tip: Block, b: Block) -> bool
     }
 }
 
-// Which of the entries judged so far descend, of the first 128: a bit for each.
+// Which of the entries judged so far descend, of as many as are held: a bit for each.
 struct Verdicts {
     low: u64,
     high: u64,
@@ -221,7 +224,7 @@ fn verdict(v: Verdicts, at: usize) -> bool
     if at < 64 {
         return signs(v.low, at as u64);
     }
-    if at < 128 {
+    if at < STORE_LENGTH {
         return signs(v.high, (at - 64) as u64);
     }
     false
@@ -241,7 +244,7 @@ fn noted(v: Verdicts, i: usize, good: bool) -> Verdicts
             high: v.high,
         };
     }
-    if i < 128 {
+    if i < STORE_LENGTH {
         return Verdicts {
             low: v.low,
             high: v.high + (1u64 << (i - 64)),
@@ -260,7 +263,7 @@ fn step_judged(tip: Block, b: Block, c: Found, at: usize, i: usize, v: Verdicts)
     if !s.goes {
         return s;
     }
-    if at < lesser(i, 128) {
+    if at < lesser(i, STORE_LENGTH) {
         return Onward {
             goes: false,
             ends: verdict(v, at),
@@ -297,7 +300,7 @@ fn put_one(out: &mut [u8], at: usize, sender: u16, view: View, b: Block) -> usiz
     let name = b.name;
     let height = b.height;
     wire::write::put_release(out, at, sender, Release { view, name, height });
-    at + 56
+    at + wire::length::RELEASE
 }
 
 // What lies below b is written first. Beside what `release` says, a record of each block has 56 bytes.
@@ -368,7 +371,7 @@ fn place_of(keep: bool, at: usize) -> Spot
 
 // The `left` entries from place i on. Every one is judged before any is stored, so that each walk goes over the store as it was; and what lies
 // behind an entry is stored before it, at places behind its own. v has the verdicts of the entries before place i.
-fn sweep(
+fn keep_from(
     store: &mut [Block],
     count: usize,
     tip: Block,
@@ -386,7 +389,7 @@ fn sweep(
         let d = judged(store, count, tip, b, i, v);
         let s = place_of(d, at);
         let w = noted(v, i, d);
-        let r = sweep(store, count, tip, i + 1, left - 1, s.next, w);
+        let r = keep_from(store, count, tip, i + 1, left - 1, s.next, w);
         fill(store, s.at, b);
         r
     } else {
@@ -400,5 +403,5 @@ pub fn drop_others(store: &mut [Block], count: usize, tip: Block) -> usize
 {
     let n = lesser(count, store.len());
     let none = no_verdicts();
-    sweep(store, count, tip, 0, n, 0, none)
+    keep_from(store, count, tip, 0, n, 0, none)
 }

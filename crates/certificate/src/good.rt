@@ -7,6 +7,7 @@ use settings::Settings;
 use wire::BlockCertificate;
 use wire::Progress;
 use wire::TimeoutCertificate;
+use wire::length;
 use wire::read::timeout;
 ghost use mathlib.Core.Path.{_≡_};
 ghost use mathlib.Core.List.{map};
@@ -40,8 +41,8 @@ fn all_good(rec: &[u8], count: usize, settings: Settings) -> bool
 {
     let mut i = 0;
     while i < count {
-        let at = 24 + 112 * i;
-        if !timeout_good(&rec[at..at + 112], settings) {
+        let at = length::TIMEOUTS_HEAD + length::TIMEOUT * i;
+        if !timeout_good(&rec[at..at + length::TIMEOUT], settings) {
             return false;
         }
         i += 1;

@@ -8,6 +8,7 @@ use settings::Settings;
 use settings::View;
 use wire::Progress;
 use wire::Vote;
+use wire::length;
 use wire::read::timeout;
 use wire::read::vote;
 ghost use mathlib.Core.Path.{_≡_};
@@ -18,6 +19,9 @@ ghost use Rattle.settings.specs.Quorum.{largest, replicas};
 ghost use Rattle.wire.specs.Fields.{cut};
 ghost use Rattle.wire.specs.Content.{timeoutOf, progressMeans, Within};
 ghost use Rattle.certificate.specs.Safe.{signs, joins, gives, backedBy, backing, better, each, carriedBy, builtBy, safeOfTimeouts, safeCertificate};
+
+// Where the first timeout of a timeout certificate ends.
+const SECOND_TIMEOUT: usize = length::TIMEOUTS_HEAD + length::TIMEOUT;
 
 pub fn signs(signers: u64, i: u64) -> bool
     requires { ⌜ i < 64 ⌝ }
@@ -82,8 +86,8 @@ fn count_backing(n: u64, rec: &[u8], count: usize, high: Vote) -> Backing
     };
     let mut i = 0;
     while i < count {
-        let at = 24 + 112 * i;
-        b = backed_by(n, &rec[at..at + 112], high, b);
+        let at = length::TIMEOUTS_HEAD + length::TIMEOUT * i;
+        b = backed_by(n, &rec[at..at + length::TIMEOUT], high, b);
         i += 1;
     }
     b
@@ -106,8 +110,8 @@ fn carried_best(rec: &[u8], count: usize, from: usize, k: Certificate) -> Certif
     let mut best = k;
     let mut i = from;
     while i < count {
-        let at = 24 + 112 * i;
-        let t = timeout(&rec[at..at + 112]);
+        let at = length::TIMEOUTS_HEAD + length::TIMEOUT * i;
+        let t = timeout(&rec[at..at + length::TIMEOUT]);
         let inner = t.carried;
         best = better(carried(inner), best);
         i += 1;
@@ -164,8 +168,8 @@ fn built_best(rec: &[u8], count: usize, settings: Settings, k: Certificate) -> C
     let mut best = k;
     let mut i = 0;
     while i < count {
-        let at = 24 + 112 * i;
-        best = built_by(rec, count, &rec[at..at + 112], settings, best);
+        let at = length::TIMEOUTS_HEAD + length::TIMEOUT * i;
+        best = built_by(rec, count, &rec[at..at + length::TIMEOUT], settings, best);
         i += 1;
     }
     best
@@ -184,7 +188,7 @@ fn safe_of_timeouts(rec: &[u8], count: usize, settings: Settings) -> Certificate
             signers: 0,
         };
     }
-    let first = timeout(&rec[24..136]);
+    let first = timeout(&rec[length::TIMEOUTS_HEAD..SECOND_TIMEOUT]);
     let inner = first.carried;
     let highest = carried_best(rec, count, 1, carried(inner));
     built_best(rec, count, settings, highest)

@@ -7,6 +7,7 @@ use mathlib.Core.Bool.{false}
 use mathlib.Core.List.{List}
 use borrow.Author.Tests.{eq-eqb}
 use lib.ListN.{length, take, drop, length-append, length-take, length-drop}
+use Rattle.codec.proofs.Le.{bytes-part}
 use Rattle.settings.specs.declared.Settings.{Settings}
 use Rattle.settings.specs.Quorum.{replicas}
 use Rattle.codec.specs.Bytes.{IsBytes, part, patch}
@@ -16,7 +17,6 @@ use Rattle.wire.specs.Content.{certificateOf}
 use Rattle.wire.specs.Encode.{proposalBytes}
 use Rattle.wire.specs.Fit.{IsName}
 use Rattle.wire.proofs.Lengths.{length-proposal}
-use Rattle.wire.proofs.Rows.{bytes-part}
 use Rattle.certificate.specs.declared.Certificate.{Certificate}
 use Rattle.certificate.specs.Safe.{safeCertificate}
 use Rattle.blocks.specs.declared.Block.{Block}
@@ -34,7 +34,7 @@ use Rattle.act.specs.Draft.{workOf, Does, Ready}
 use Rattle.act.proofs.Steps.{emptyStore, sent-at, sent-out, same-left, ready-next}
 use Rattle.act.proofs.Advancing.{adoptSafe}
 use Rattle.event.specs.declared.Event.{Event}
-use Rattle.event.specs.Event.{Gives, HeldIs, holdVote, safeOfEntry, offerBytes, Proposable}
+use Rattle.event.specs.Event.{Gives, HeldIs, holdVote, safeOfEntry, ownProposalBytes, Proposable}
 use Rattle.event.proofs.Giving.{gives-same, does-gives}
 use Rattle.event.proofs.Holding.{held-same, tip-adopted, hold-vote-longer}
 
@@ -56,10 +56,10 @@ pub safe-is : (m : List ℕ) {k : ℕ} {s : Settings} {c : Certificate} → k �
 unfolding safeOfEntry
 safe-is m e s c = c ∙ rw (s, entry-lent m e)
 
-pub offer-is : (m : List ℕ) (v : ℕ) (x : Child) {k me : ℕ} → k ≡ entryLengthOf m → me ≡ ownOf m
-    → proposalBytes me v (x .name) (x .parent) (x .height .0) (take (16 + k - 16) (drop 16 m)) ≡ offerBytes m v x
-unfolding offerBytes
-offer-is m v x e i = rw (i, entry-lent m e)
+pub own-proposal-is : (m : List ℕ) (v : ℕ) (x : Child) {k me : ℕ} → k ≡ entryLengthOf m → me ≡ ownOf m
+    → proposalBytes me v (x .name) (x .parent) (x .height .0) (take (16 + k - 16) (drop 16 m)) ≡ ownProposalBytes m v x
+unfolding ownProposalBytes
+own-proposal-is m v x e i = rw (i, entry-lent m e)
 
 -- ---- the proposal is sent, and its certificate adopted
 module _ (d : Draft) (m o : List ℕ) (x : List ℕ) (h : ℕ) (hx : IsName x) (R : Regular (workOf d m o emptyStore)) (a : Ready d m o (88 + entryRoom + 48)) where
@@ -73,10 +73,10 @@ module _ (d : Draft) (m o : List ℕ) (x : List ℕ) (h : ℕ) (hx : IsName x) (
   next = record { name = x; parent = parent; height = record { 0 = suc h } }
 
   abbrev sent : List ℕ
-  sent = offerBytes m (d .counters .view .0) (record { name = x; parent = parent; height = record { 0 = suc h } })
+  sent = ownProposalBytes m (d .counters .view .0) (record { name = x; parent = parent; height = record { 0 = suc h } })
 
-  abbrev offers : Work → Work
-  offers W = adoptSafe rec (send W sent)
+  abbrev proposes : Work → Work
+  proposes W = adoptSafe rec (send W sent)
 
   rec-bytes : IsBytes rec
   unfolding entryOf
@@ -90,11 +90,11 @@ module _ (d : Draft) (m o : List ℕ) (x : List ℕ) (h : ℕ) (hx : IsName x) (
   parent-name = fits-typed (settingsOf m) (certificateOf rec) (omega (arith, R .few)) (form-fits (replicas (settingsOf m)) rec rec-bytes (R .entry)) .name
 
   length-sent : length sent ≡ 88 + length rec
-  unfolding offerBytes
+  unfolding ownProposalBytes
   length-sent = length-proposal x hx parent parent-name (ownOf m) (d .counters .view .0) (suc h) rec
 
   module _ {k : Certificate} {at : ℕ} {o₁ : List ℕ} {c : Counters} (e : k ≡ safeOfEntry m)
-      (p : (at ≡ d .at + (88 + length rec)) × (o₁ ≡ patch o (d .at) (offerBytes m (d .counters .view .0) (record { name = x; parent = k .name; height = record { 0 = h + 1 } }))))
+      (p : (at ≡ d .at + (88 + length rec)) × (o₁ ≡ patch o (d .at) (ownProposalBytes m (d .counters .view .0) (record { name = x; parent = k .name; height = record { 0 = h + 1 } }))))
       (q : c ≡ adopting (d .counters) k) where
     put : o₁ ≡ patch o (d .at) sent
     put = p .1 ∙ rw (e, add-one h)
@@ -102,11 +102,11 @@ module _ (d : Draft) (m o : List ℕ) (x : List ℕ) (h : ℕ) (hx : IsName x) (
     fits : d .at + length sent ≤ length o
     fits = omega (arith, length-sent, rec-room, a .room)
 
-    offered : Does offers d m o (record { counters = c; at = at }) m o₁
+    proposed : Does proposes d m o (record { counters = c; at = at }) m o₁
     unfolding adopt safeOfEntry
-    offered =
+    proposed =
         record {
-          leaves = λ s. same-left (record { counters = c; at = at }) m o₁ s (offers (workOf d m o s)) o (q ∙ rw e)
+          leaves = λ s. same-left (record { counters = c; at = at }) m o₁ s (proposes (workOf d m o s)) o (q ∙ rw e)
               (p .0 ∙ ap (λ (i : ℕ). d .at + i) (sym length-sent) ∙ sent-at o (d .at) sent fits) refl (put ∙ sent-out o (d .at) sent fits) refl;
         }
 
@@ -114,16 +114,16 @@ module _ (d : Draft) (m o : List ℕ) (x : List ℕ) (h : ℕ) (hx : IsName x) (
     unfolding adopt
     propose-ready =
         let W = workOf d m o emptyStore in
-        let g : Grows (88 + entryRoom) W (offers W) = omega (arith, length-append (W .out) sent, length-sent, rec-room) in
-        ready-next offers (88 + entryRoom) 48 offered a (adopts-regular (send W sent) rec rec-bytes (R .entry) (send-regular W sent R)) g (omega arith)
+        let g : Grows (88 + entryRoom) W (proposes W) = omega (arith, length-append (W .out) sent, length-sent, rec-room) in
+        ready-next proposes (88 + entryRoom) 48 proposed a (adopts-regular (send W sent) rec rec-bytes (R .entry) (send-regular W sent R)) g (omega arith)
 
     pub propose-gives : {z : Event} {m₂ o₂ : List ℕ}
         → Gives (holdVote (d .counters .view .0) (record { name = x; parent = k .name; height = record { 0 = h + 1 } })) (HeldIs x false) (record { counters = c; at = at }) m o₁ z m₂ o₂
         → Gives (onPropose x) (Proposable x h) d m o z m₂ o₂
-    unfolding onPropose propositionOf holdVote safeOfEntry offerBytes
+    unfolding onPropose propositionOf holdVote safeOfEntry ownProposalBytes
     propose-gives {z} {m₂} {o₂} y =
         let y′ : Gives (holdVote (d .counters .view .0) next) (HeldIs x false) (record { counters = c; at = at }) m o₁ z m₂ o₂ = rw (e, add-one h) at y in
-        gives-same (λ W. holdVote (d .counters .view .0) next (offers W)) (onPropose x) (Proposable x h)
+        gives-same (λ W. holdVote (d .counters .view .0) next (proposes W)) (onPropose x) (Proposable x h)
         (λ s l g. sym (rw (g .height, eq-eqb (d .counters .view .0) (d .counters .view .0) refl)))
-        (does-gives offers (holdVote (d .counters .view .0) next) (Proposable x h) (HeldIs x false) offered y′
+        (does-gives proposes (holdVote (d .counters .view .0) next) (Proposable x h) (HeldIs x false) proposed y′
         (λ s g. held-same x false d (record { counters = c; at = at }) m m o o₁ (tip-adopted (d .counters) k q) refl s (g .new)) (hold-vote-longer (d .counters .view .0) next))

@@ -85,8 +85,8 @@ unfoldable pub safeOfEntry : List ℕ → Certificate
 safeOfEntry m = safeCertificate (settingsOf m) (certificateOf (entryOf m))
 
 -- the proposal of a child in a view, with the entry certificate
-unfoldable pub offerBytes : List ℕ → ℕ → Child → List ℕ
-offerBytes m v x = proposalBytes (ownOf m) v (x .name) (x .parent) (x .height .0) (entryOf m)
+unfoldable pub ownProposalBytes : List ℕ → ℕ → Child → List ℕ
+ownProposalBytes m v x = proposalBytes (ownOf m) v (x .name) (x .parent) (x .height .0) (entryOf m)
 
 -- what the store was asked: the name is new, and the safe block, which refusal 12 has found, has that height
 pub record Proposable (x : List ℕ) (h : ℕ) (W : Work) : Type 0 where

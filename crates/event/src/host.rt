@@ -9,6 +9,9 @@ use certificate::Certificate;
 use certificate::safe::safe_certificate;
 use codec::num::put_u16;
 use counters::adopting;
+use memory::BALLOT_ROWS;
+use memory::ENTRY_PLACE;
+use memory::TIMEOUT_ROWS;
 use memory::entry_length;
 use memory::own;
 use memory::put_block_count;
@@ -21,6 +24,7 @@ use settings::Settings;
 use settings::View;
 use wire::Child;
 use wire::Vote;
+use wire::length;
 use wire::read::progress;
 use wire::write::put_block_certificate;
 use wire::write::put_proposal;
@@ -37,12 +41,12 @@ ghost use Rattle.protocol.specs.Events.{onTimer, onPropose};
 ghost use Rattle.protocol.specs.Calls.{openedMemory};
 ghost use Rattle.act.specs.Draft.{Ready};
 ghost use Rattle.act.specs.Progress.{HasForm};
-ghost use Rattle.event.specs.Event.{Gives, Always, safeOfEntry, offerBytes, Proposable, headBytes};
+ghost use Rattle.event.specs.Event.{Gives, Always, safeOfEntry, ownProposalBytes, Proposable, headBytes};
 
 // The timer of a view.
-pub fn on_timer(mem: &mut [u8], out: &mut [u8], d: Draft, view: u64) -> Event
+pub fn on_timer(mem: &mut [u8], out: &mut [u8], d: Draft, view: View) -> Event
     requires { ⌜ Ready d (now mem) (now out) 112 ⌝ }
-    ensures { λ r. ⌜ Gives (onTimer view) Always d (now (mem .entry)) (now (out .entry)) r (now (mem .exit)) (now (out .exit)) ⌝ }
+    ensures { λ r. ⌜ Gives (onTimer (view .0)) Always d (now (mem .entry)) (now (out .entry)) r (now (mem .exit)) (now (out .exit)) ⌝ }
 {
     no_block(send_timeout(mem, out, d, view))
 }
@@ -52,21 +56,28 @@ fn safe_of_entry(mem: &[u8]) -> Certificate
     requires { ⌜ (memoryLength ≤ length (now mem)) × ((replicas (settingsOf (now mem)) ≤ largest) × HasForm (replicas (settingsOf (now mem))) (entryOf (now mem))) ⌝ }
     ensures { λ r. ⌜ r ≡ safeOfEntry (now (mem .entry)) ⌝ }
 {
-    let entry = &mem[16..16 + entry_length(mem)];
+    let entry = &mem[ENTRY_PLACE..ENTRY_PLACE + entry_length(mem)];
     safe_certificate(entry, progress(entry, 0), settings(mem))
 }
 
 // The proposal of a child, with the entry certificate, is written behind what is written; the place after it.
-fn offer(mem: &[u8], out: &mut [u8], d: Draft, child: Child) -> usize
+fn put_own_proposal(mem: &[u8], out: &mut [u8], d: Draft, child: Child) -> usize
     requires { ⌜ (memoryLength ≤ length (now mem)) × ((length (entryOf (now mem)) ≤ entryRoom) × (d .at + (88 + entryRoom) ≤ length (now out))) ⌝ }
-    ensures { λ r. ⌜ (r ≡ d .at + (88 + length (entryOf (now (mem .entry))))) × (now (out .exit) ≡ patch (now (out .entry)) (d .at) (offerBytes (now (mem .entry)) (d .counters .view .0) child)) ⌝ }
+    ensures { λ r. ⌜ (r ≡ d .at + (88 + length (entryOf (now (mem .entry))))) × (now (out .exit) ≡ patch (now (out .entry)) (d .at) (ownProposalBytes (now (mem .entry)) (d .counters .view .0) child)) ⌝ }
 {
     let at = d.at;
     let c = d.counters;
     let view = c.view;
-    let to = 16 + entry_length(mem);
-    put_proposal(out, at, own(mem), view, child, &mem[16..to]);
-    at + (72 + to)
+    let size = entry_length(mem);
+    put_proposal(
+        out,
+        at,
+        own(mem),
+        view,
+        child,
+        &mem[ENTRY_PLACE..ENTRY_PLACE + size],
+    );
+    at + (length::PROPOSAL_HEAD + size)
 }
 
 // Propose: a block of that name is built on the safe block, whose height is handed in, sent, and taken as one's own.
@@ -83,7 +94,7 @@ pub fn on_propose(mem: &mut [u8], out: &mut [u8], d: Draft, name: [u8; 32], base
         parent,
         height,
     };
-    let at = offer(mem, out, d, child);
+    let at = put_own_proposal(mem, out, d, child);
     let next = Draft {
         counters: adopting(counters, k),
         at,
@@ -93,7 +104,7 @@ pub fn on_propose(mem: &mut [u8], out: &mut [u8], d: Draft, name: [u8; 32], base
         parent,
         height,
     };
-    hold_and_vote(mem, out, next, counters.view.0, block, false)
+    hold_and_vote(mem, out, next, counters.view, block, false)
 }
 
 // Settings and own number.
@@ -108,10 +119,10 @@ fn put_head(mem: &mut [u8], s: Settings, own: u16)
 }
 
 // The genesis certificate's record.
-fn genesis_record(own: u16) -> [u8; 56]
+fn genesis_record(own: u16) -> [u8; length::BLOCK_CERTIFICATE]
     ensures { λ r. ⌜ r ≡ blockCertificateBytes own 0 zeroName 0 ⌝ }
 {
-    let mut rec = [0u8; 56];
+    let mut rec = [0u8; length::BLOCK_CERTIFICATE];
     let genesis = Vote {
         view: View(0),
         name: [0u8; 32],
@@ -129,6 +140,6 @@ pub fn open_memory(mem: &mut [u8], s: Settings, own: u16)
     put_head(mem, s, own);
     put_block_count(mem, 0);
     put_entry(mem, &entry);
-    drop_ballots(mem, 0, 8);
-    drop_timeouts(mem, 0, 4);
+    drop_ballots(mem, View(0), BALLOT_ROWS);
+    drop_timeouts(mem, View(0), TIMEOUT_ROWS);
 }

@@ -13,6 +13,7 @@ use blocks::Block;
 use memory::block_count;
 use memory::put_block_count;
 use settings::Height;
+use settings::View;
 ghost use mathlib.Core.Path.{_≡_};
 ghost use Prim.Native.Nat.{_+_, _≤_};
 ghost use lib.ListN.{length};
@@ -66,19 +67,19 @@ fn hold_and_vote(
     mem: &mut [u8],
     out: &mut [u8],
     d: Draft,
-    view: u64,
+    view: View,
     block: Block,
     held: bool,
 ) -> Event
     requires { ⌜ Ready d (now mem) (now out) 48 × HasRoom (now mem) held ⌝ }
-    ensures { λ r. ⌜ Gives (holdVote view block) (HeldIs (block .name) held) d (now (mem .entry)) (now (out .entry)) r (now (mem .exit)) (now (out .exit)) ⌝ }
+    ensures { λ r. ⌜ Gives (holdVote (view .0) block) (HeldIs (block .name) held) d (now (mem .entry)) (now (out .entry)) r (now (mem .exit)) (now (out .exit)) ⌝ }
 {
     let c = d.counters;
     let high = c.high;
     let name = block.name;
     let place = take_place(mem, held);
-    if c.timed.0 < view {
-        if high.view.0 < view {
+    if c.timed.0 < view.0 {
+        if high.view.0 < view.0 {
             return Event {
                 draft: send_vote(mem, out, d, view, name),
                 place,
@@ -98,16 +99,16 @@ fn proposition(
     mem: &mut [u8],
     out: &mut [u8],
     d: Draft,
-    view: u64,
+    view: View,
     block: Block,
     rec: &[u8],
     held: bool,
 ) -> Event
     requires { ⌜ Ready d (now mem) (now out) (entryRoom + 48) × (IsProgress (replicas (settingsOf (now mem))) (now rec) × HasRoom (now mem) held) ⌝ }
-    ensures { λ r. ⌜ Gives (propositionOf view block (now (rec .entry))) (HeldIs (block .name) held) d (now (mem .entry)) (now (out .entry)) r (now (mem .exit)) (now (out .exit)) ⌝ }
+    ensures { λ r. ⌜ Gives (propositionOf (view .0) block (now (rec .entry))) (HeldIs (block .name) held) d (now (mem .entry)) (now (out .entry)) r (now (mem .exit)) (now (out .exit)) ⌝ }
 {
     let c = d.counters;
-    if view == c.view.0 {
+    if view.0 == c.view.0 {
         let at = d.at;
         let adopted = Draft {
             counters: adopt_safe(mem, c, rec),

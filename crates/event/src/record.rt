@@ -12,7 +12,9 @@ use memory::kept::commit_row;
 use memory::kept::keep;
 use memory::kept::timeout_row;
 use memory::kept::vote_row;
+use settings::View;
 use wire::Child;
+use wire::length;
 ghost use mathlib.Core.Path.{_≡_};
 ghost use Prim.Native.Nat.{_+_, _≤_, _<_};
 ghost use lib.ListN.{length};
@@ -34,9 +36,9 @@ fn keep_vote(mem: &mut [u8], rec: &[u8])
 {
     keep(
         mem,
-        vote_row(u64_at(rec, 8)),
+        vote_row(View(u64_at(rec, 8))),
         u16_at(rec, 6) as usize,
-        &rec[16..48],
+        &rec[16..length::VOTE],
     );
 }
 
@@ -46,9 +48,9 @@ fn keep_commit(mem: &mut [u8], rec: &[u8])
 {
     keep(
         mem,
-        commit_row(u64_at(rec, 8)),
+        commit_row(View(u64_at(rec, 8))),
         u16_at(rec, 6) as usize,
-        &rec[16..48],
+        &rec[16..length::VOTE],
     );
 }
 
@@ -58,7 +60,7 @@ fn keep_timeout(mem: &mut [u8], rec: &[u8])
 {
     keep(
         mem,
-        timeout_row(u64_at(rec, 8)),
+        timeout_row(View(u64_at(rec, 8))),
         u16_at(rec, 6) as usize,
         rec,
     );
@@ -82,9 +84,17 @@ fn on_proposal(mem: &mut [u8], out: &mut [u8], d: Draft, rec: &[u8], held: bool)
     requires { ⌜ Ready d (now mem) (now out) (entryRoom + 48) × (IsProgress (replicas (settingsOf (now mem))) (progressOf (now rec)) × HasRoom (now mem) held) ⌝ }
     ensures { λ r. ⌜ Gives (propositionOf (viewOf (now (rec .entry))) (proposedBlock (now (rec .entry))) (progressOf (now (rec .entry)))) (HeldIs (nameOf (now (rec .entry))) held) d (now (mem .entry)) (now (out .entry)) r (now (mem .exit)) (now (out .exit)) ⌝ }
 {
-    let view = u64_at(rec, 8);
+    let view = View(u64_at(rec, 8));
     let block = block_of(wire::read::proposed(rec));
-    proposition(mem, out, d, view, block, &rec[88..], held)
+    proposition(
+        mem,
+        out,
+        d,
+        view,
+        block,
+        &rec[length::PROPOSAL_HEAD..],
+        held,
+    )
 }
 
 // Kind 8.

@@ -1,6 +1,7 @@
 // 10 to 14 of the kinds 7 and 8 and of propose, with what the store holds of two names: `found` of the block's, `under` of the block's below it.
 use crate::Want;
 use blocks::Found;
+use blocks::STORE_LENGTH;
 use codec::name::same;
 use codec::num::u16_at;
 use settings::Height;
@@ -43,7 +44,7 @@ fn misplaced_on(under: Found, b: Child) -> bool
     if b.height.0 - 1 != lower.height.0 {
         return true;
     }
-    Height::LAST < b.height.0
+    Height::LAST.0 < b.height.0
 }
 
 // A new block, and no room in the store.
@@ -53,7 +54,7 @@ fn store_full(want: Want, found: Found) -> bool
     if found.is {
         return false;
     }
-    128 <= want.count
+    STORE_LENGTH <= want.count
 }
 
 // 11 to 14.
@@ -120,7 +121,7 @@ pub fn propose_chain(want: Want, found: Found, under: Found) -> u64
         return 12;
     }
     let lower = under.block;
-    if Height::LAST <= lower.height.0 {
+    if Height::LAST.0 <= lower.height.0 {
         return 13;
     }
     if store_full(want, found) {

@@ -8,6 +8,7 @@ use certificate::safe::safe_certificate;
 use codec::name_at;
 use codec::num::u16_at;
 use counters::Counters;
+use memory::ENTRY_PLACE;
 use memory::block_count;
 use memory::entry_length;
 use memory::settings;
@@ -17,6 +18,7 @@ use refusals::early::propose_early;
 use refusals::regions::regions;
 use settings::View;
 use shape::Verdict;
+use wire::length;
 use wire::read::progress;
 ghost use mathlib.Core.Path.{_≡_};
 ghost use mathlib.Core.Bool.{true, false};
@@ -86,7 +88,7 @@ fn look_up(mem: &[u8], rec: &[u8]) -> Want
 {
     let kind = u16_at(rec, 4);
     if kind == 7 {
-        let inner = progress(rec, 88);
+        let inner = progress(rec, length::PROPOSAL_HEAD);
         let k = safe_certificate(rec, inner, settings(mem));
         let base = k.name;
         return names(mem, name_at(rec, 16), base);
@@ -102,7 +104,7 @@ fn entry_base(mem: &[u8]) -> [u8; 32]
     requires { ⌜ (memoryLength ≤ length (now mem)) × ((replicas (settingsOf (now mem)) ≤ largest) × (certificateSized (replicas (settingsOf (now mem))) (entryOf (now mem)) ≡ true)) ⌝ }
     ensures { λ r. ⌜ r ≡ safeBlock (now (mem .entry)) (certificateOf (entryOf (now (mem .entry)))) ⌝ }
 {
-    let entry = &mem[16..16 + entry_length(mem)];
+    let entry = &mem[ENTRY_PLACE..ENTRY_PLACE + entry_length(mem)];
     let k = safe_certificate(entry, progress(entry, 0), settings(mem));
     let base = k.name;
     base
@@ -143,16 +145,16 @@ pub fn propose(c: Counters, mem: &[u8], entries: usize, room: usize, name: [u8; 
 }
 
 // 7, 8 and 10 of the timer.
-fn timer_number(c: Counters, view: u64) -> u64
-    ensures { λ r. ⌜ r ≡ firstOf (timerRules (lent c [] []) view) ⌝ }
+fn timer_number(c: Counters, view: View) -> u64
+    ensures { λ r. ⌜ r ≡ firstOf (timerRules (lent c [] []) (view .0)) ⌝ }
 {
-    if below_view(c.view.0, view) {
+    if below_view(c.view, view) {
         return 7;
     }
-    if c.view.0 < view {
+    if c.view.0 < view.0 {
         return 8;
     }
-    if View::LAST <= view {
+    if View::LAST.0 <= view.0 {
         return 8;
     }
     if c.view.0 <= c.timed.0 {
@@ -162,8 +164,8 @@ fn timer_number(c: Counters, view: u64) -> u64
 }
 
 // The timer of a view: its whole judgement.
-pub fn timer(c: Counters, mem: &[u8], entries: usize, room: usize, view: u64) -> u64
-    ensures { λ r. ⌜ ((s : List Block) → length s ≡ entries → r ≡ firstOf (regionRules (lent c (now (mem .entry)) s) room then timerRules (lent c (now (mem .entry)) s) view)) ⌝ }
+pub fn timer(c: Counters, mem: &[u8], entries: usize, room: usize, view: View) -> u64
+    ensures { λ r. ⌜ ((s : List Block) → length s ≡ entries → r ≡ firstOf (regionRules (lent c (now (mem .entry)) s) room then timerRules (lent c (now (mem .entry)) s) (view .0))) ⌝ }
 {
     let region = regions(c, mem, entries, room);
     if region != 0 {

@@ -10,7 +10,7 @@ use lib.Dec.{eqb}
 use Rattle.codec.specs.Names.{nameLength, lessBytes}
 use Rattle.codec.proofs.Order.{less-irrefl, less-trans}
 use Rattle.memory.specs.declared.decided.Choice.{Choice}
-use Rattle.memory.specs.declared.decided.Quest.{Quest}
+use Rattle.memory.specs.declared.decided.Quorums.{Quorums}
 use Rattle.memory.specs.Layout.{voteRow, commitRow}
 use Rattle.memory.specs.Kept.{has, kept}
 use Rattle.memory.specs.Decided.{noChoice, chosen, above, improves, decided, consider, choose, nextDecided}
@@ -28,8 +28,8 @@ pub record Fit (test : List ℕ → Bool) (after : Choice) (x : List ℕ) : Type
   pub higher : above after x ≡ true
 
 -- a name that may be found: kept for the view as a vote or as a commit, and fit
-pub record Candidate (m : List ℕ) (q : Quest) (after : Choice) (x : List ℕ) : Type 0 where
-  pub entry : Entry m (voteRow (q .view)) (q .n) x ⊎ Entry m (commitRow (q .view)) (q .n) x
+pub record Candidate (m : List ℕ) (q : Quorums) (after : Choice) (x : List ℕ) : Type 0 where
+  pub entry : Entry m (voteRow (q .view .0)) (q .n) x ⊎ Entry m (commitRow (q .view .0)) (q .n) x
   pub fit : Fit (decided m q) after x
 
 -- the best so far is there, and x is not less
@@ -121,22 +121,22 @@ module _ (m : List ℕ) (row : ℕ) (test : List ℕ → Bool) (after : Choice) 
       go false p rest = consider-still n (choose m row test after best n) y (rest (eqb-false (e .by) n p))
 
 -- ---- the next decided name
-module _ (m : List ℕ) (q : Quest) (after : Choice) where
+module _ (m : List ℕ) (q : Quorums) (after : Choice) where
   -- no candidate is less than it: if there is a candidate, one is found
   pub next-least : (y : List ℕ) → Candidate m q after y → Reached (nextDecided m q after) y
   unfolding nextDecided
   next-least y c =
       ⊎-elim
-      (λ e. choose-still m (commitRow (q .view)) (decided m q) after _ (q .n) y (choose-reach m (voteRow (q .view)) (decided m q) after noChoice (q .n) y e (c .fit)))
-      (λ e. choose-reach m (commitRow (q .view)) (decided m q) after _ (q .n) y e (c .fit))
+      (λ e. choose-still m (commitRow (q .view .0)) (decided m q) after _ (q .n) y (choose-reach m (voteRow (q .view .0)) (decided m q) after noChoice (q .n) y e (c .fit)))
+      (λ e. choose-reach m (commitRow (q .view .0)) (decided m q) after _ (q .n) y e (c .fit))
       (c .entry)
 
   -- what is found is a candidate
   pub next-candidate : nextDecided m q after .some ≡ true → Candidate m q after (nextDecided m q after .name)
   unfolding nextDecided
   next-candidate =
-      choose-from m (commitRow (q .view)) (decided m q) after (Candidate m q after) _ (q .n) (λ x e f. record { entry = inr e; fit = f })
-      (choose-from m (voteRow (q .view)) (decided m q) after (Candidate m q after) noChoice (q .n) (λ x e f. record { entry = inl e; fit = f }) (λ e. absurd (false≢true e)))
+      choose-from m (commitRow (q .view .0)) (decided m q) after (Candidate m q after) _ (q .n) (λ x e f. record { entry = inr e; fit = f })
+      (choose-from m (voteRow (q .view .0)) (decided m q) after (Candidate m q after) noChoice (q .n) (λ x e f. record { entry = inl e; fit = f }) (λ e. absurd (false≢true e)))
 
   -- if none is found there is none
   pub next-none : nextDecided m q after .some ≡ false → (y : List ℕ) → Candidate m q after y → ⊥

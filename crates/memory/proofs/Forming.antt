@@ -11,7 +11,7 @@ use Rattle.codec.proofs.Laws.{patch-append, patch-comm}
 use Rattle.wire.specs.Encode.{timeoutsBytes, timeoutsHeadBytes}
 use Rattle.wire.proofs.Lengths.{length-timeouts-head, length-timeouts}
 use Rattle.memory.specs.declared.decided.Choice.{Choice}
-use Rattle.memory.specs.declared.decided.Quest.{Quest}
+use Rattle.memory.specs.declared.decided.Quorums.{Quorums}
 use Rattle.memory.specs.Decided.{consider, choose}
 
 -- one replica more is considered

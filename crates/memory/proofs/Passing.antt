@@ -12,7 +12,7 @@ use Rattle.settings.specs.Quorum.{largest}
 use Rattle.codec.specs.Names.{nameLength, lessBytes}
 use Rattle.codec.proofs.Order.{and-true, same-eq, less-total}
 use Rattle.memory.specs.declared.decided.Choice.{Choice}
-use Rattle.memory.specs.declared.decided.Quest.{Quest}
+use Rattle.memory.specs.declared.decided.Quorums.{Quorums}
 use Rattle.memory.specs.Layout.{voteRow, commitRow}
 use Rattle.memory.specs.Kept.{has, kept, keptCount, backs, tally}
 use Rattle.memory.specs.Decided.{noChoice, improves, backed, decided, tooFew, consider, choose, nextDecided}
@@ -104,12 +104,12 @@ choose-none m row test after best (suc n) h =
     (considered m row test after n (choose m row test after best n))
 
 -- ---- BOTH ROWS
-module _ (m : List ℕ) (q : Quest) (after : Choice) (some-votes : 1 ≤ q .votes) (some-commits : 1 ≤ q .commits) where
+module _ (m : List ℕ) (q : Quorums) (after : Choice) (some-votes : 1 ≤ q .votes) (some-commits : 1 ≤ q .commits) where
   abbrev votes : ℕ
-  votes = voteRow (q .view)
+  votes = voteRow (q .view .0)
 
   abbrev commits : ℕ
-  commits = commitRow (q .view)
+  commits = commitRow (q .view .0)
 
   abbrev voted : Choice
   voted = choose m votes (backed m votes (q .n) (q .votes)) after noChoice (q .n)
@@ -190,16 +190,16 @@ module _ (quorum s t a b : ℕ) (e : s ≡ a) (f : t ≡ b) where
       go false g = sym (lt-leb (quorum + a) b (omega (arith, h, e, f, leb-false quorum (t - s) g)))
 
 -- ---- a view with too few entries has no decided name
-module _ (m : List ℕ) (q : Quest) (small : q .n ≤ largest) (few : tooFew m q ≡ true) where
+module _ (m : List ℕ) (q : Quorums) (small : q .n ≤ largest) (few : tooFew m q ≡ true) where
   none-decided : (x : List ℕ) → decided m q x ≡ false
   unfolding decided tooFew
   none-decided x =
-      let p = and-true (ltb (keptCount m (voteRow (q .view)) (q .n)) (q .votes)) (ltb (keptCount m (commitRow (q .view)) (q .n)) (q .commits)) few in
-      let v : keptCount m (voteRow (q .view)) (q .n) < q .votes = ltb-true _ _ (p .0) in
-      let c : keptCount m (commitRow (q .view)) (q .n) < q .commits = ltb-true _ _ (p .1) in
+      let p = and-true (ltb (keptCount m (voteRow (q .view .0)) (q .n)) (q .votes)) (ltb (keptCount m (commitRow (q .view .0)) (q .n)) (q .commits)) few in
+      let v : keptCount m (voteRow (q .view .0)) (q .n) < q .votes = ltb-true _ _ (p .0) in
+      let c : keptCount m (commitRow (q .view .0)) (q .n) < q .commits = ltb-true _ _ (p .1) in
       let w : q .n ≤ 64 = omega arith in
-      let a : tally m (voteRow (q .view)) x (q .n) .count < q .votes = omega (arith, tally-kept m (voteRow (q .view)) x (q .n) w) in
-      let b : tally m (commitRow (q .view)) x (q .n) .count < q .commits = omega (arith, tally-kept m (commitRow (q .view)) x (q .n) w) in
+      let a : tally m (voteRow (q .view .0)) x (q .n) .count < q .votes = omega (arith, tally-kept m (voteRow (q .view .0)) x (q .n) w) in
+      let b : tally m (commitRow (q .view .0)) x (q .n) .count < q .commits = omega (arith, tally-kept m (commitRow (q .view .0)) x (q .n) w) in
       rw (lt-leb _ _ a, lt-leb _ _ b)
 
   none-chosen : (row : ℕ) (after best : Choice) (k : ℕ) → choose m row (decided m q) after best k ≡ best
@@ -215,4 +215,4 @@ module _ (m : List ℕ) (q : Quest) (small : q .n ≤ largest) (few : tooFew m q
 
   pub few-none : (after : Choice) → nextDecided m q after ≡ noChoice
   unfolding nextDecided
-  few-none after = rw (none-chosen (voteRow (q .view)) after noChoice (q .n), none-chosen (commitRow (q .view)) after noChoice (q .n))
+  few-none after = rw (none-chosen (voteRow (q .view .0)) after noChoice (q .n), none-chosen (commitRow (q .view .0)) after noChoice (q .n))

@@ -12,12 +12,12 @@ use Rattle.settings.specs.Quorum.{largest}
 use Rattle.codec.specs.Names.{nameLength, zeroName, sameBytes}
 use Rattle.codec.proofs.Order.{and-true, same-eq, same-refl, less-irrefl}
 use Rattle.memory.specs.declared.decided.Choice.{Choice}
-use Rattle.memory.specs.declared.decided.Quest.{Quest}
+use Rattle.memory.specs.declared.decided.Quorums.{Quorums}
 use Rattle.memory.specs.declared.decided.Standing.{Standing}
 use Rattle.memory.specs.declared.decided.Finding.{Finding}
 use Rattle.memory.specs.Layout.{voteRow, commitRow}
 use Rattle.memory.specs.Kept.{has, kept, keptCount, backs, tally}
-use Rattle.memory.specs.Decided.{noChoice, chosen, finding, above, backed, aloneIn, standing, alone, decided, nextDecided, firstOf, likely, survey}
+use Rattle.memory.specs.Decided.{noChoice, chosen, finding, above, backed, aloneIn, standing, alone, decided, nextDecided, firstOf, likely, findDecided}
 use Rattle.memory.proofs.Bits.{counted}
 use Rattle.memory.proofs.Counting.{kept-counted, tally-counted, backs-has, backs-same}
 use Rattle.memory.proofs.Choosing.{Candidate, next-candidate, next-none}
@@ -57,31 +57,31 @@ module _ (m : List ℕ) (row n quorum : ℕ) (w : n ≤ 64) (x y : List ℕ) (d 
   other-unbacked a = lt-leb quorum (tally m row y n .count) (omega (arith, tally-apart, ltb-true (keptCount m row n - tally m row x n .count) quorum a))
 
 -- ---- BOTH ROWS
-module _ (m : List ℕ) (q : Quest) (small : q .n ≤ largest) (x : List ℕ) (sole : alone m q x ≡ true) where
+module _ (m : List ℕ) (q : Quorums) (small : q .n ≤ largest) (x : List ℕ) (sole : alone m q x ≡ true) where
   sole-decided : (y : List ℕ) → decided m q y ≡ true → x ≡ y
   unfolding decided alone
   sole-decided y e = go (sameBytes x y) refl
     where
-      both : (aloneIn m (voteRow (q .view)) (q .n) (q .votes) x ≡ true) × (aloneIn m (commitRow (q .view)) (q .n) (q .commits) x ≡ true)
-      both = and-true (aloneIn m (voteRow (q .view)) (q .n) (q .votes) x) (aloneIn m (commitRow (q .view)) (q .n) (q .commits) x) sole
+      both : (aloneIn m (voteRow (q .view .0)) (q .n) (q .votes) x ≡ true) × (aloneIn m (commitRow (q .view .0)) (q .n) (q .commits) x ≡ true)
+      both = and-true (aloneIn m (voteRow (q .view .0)) (q .n) (q .votes) x) (aloneIn m (commitRow (q .view .0)) (q .n) (q .commits) x) sole
 
       go : (t : Bool) → sameBytes x y ≡ t → x ≡ y
       go true f = same-eq x y f
       go false f =
           let d : x ≡ y → ⊥ = λ s. true≢false (sym (rw s (same-refl y)) ∙ f) in
-          let v = other-unbacked m (voteRow (q .view)) (q .n) (q .votes) (omega arith) x y d (both .0) in
-          let c = other-unbacked m (commitRow (q .view)) (q .n) (q .commits) (omega arith) x y d (both .1) in
+          let v = other-unbacked m (voteRow (q .view .0)) (q .n) (q .votes) (omega arith) x y d (both .0) in
+          let c = other-unbacked m (commitRow (q .view .0)) (q .n) (q .commits) (omega arith) x y d (both .1) in
           absurd (true≢false (sym e ∙ rw (v, c) refl))
 
   module _ (some-votes : 1 ≤ q .votes) (some-commits : 1 ≤ q .commits) where
     -- a decided name has an entry
     candidate : (after : Choice) → decided m q x ≡ true → above after x ≡ true → Candidate m q after x
     unfolding decided
-    candidate after e a = go (backed m (voteRow (q .view)) (q .n) (q .votes) x) refl (backed m (commitRow (q .view)) (q .n) (q .commits) x) refl e
+    candidate after e a = go (backed m (voteRow (q .view .0)) (q .n) (q .votes) x) refl (backed m (commitRow (q .view .0)) (q .n) (q .commits) x) refl e
       where
-        go : (s : Bool) → backed m (voteRow (q .view)) (q .n) (q .votes) x ≡ s → (t : Bool) → backed m (commitRow (q .view)) (q .n) (q .commits) x ≡ t → (s || t) ≡ true → Candidate m q after x
-        go true f t g h = record { entry = inl (tally-entry m (voteRow (q .view)) x (q .n) (omega (arith, some-votes, leb-true (q .votes) _ f))); fit = record { enough = e; higher = a } }
-        go false f true g h = record { entry = inr (tally-entry m (commitRow (q .view)) x (q .n) (omega (arith, some-commits, leb-true (q .commits) _ g))); fit = record { enough = e; higher = a } }
+        go : (s : Bool) → backed m (voteRow (q .view .0)) (q .n) (q .votes) x ≡ s → (t : Bool) → backed m (commitRow (q .view .0)) (q .n) (q .commits) x ≡ t → (s || t) ≡ true → Candidate m q after x
+        go true f t g h = record { entry = inl (tally-entry m (voteRow (q .view .0)) x (q .n) (omega (arith, some-votes, leb-true (q .votes) _ f))); fit = record { enough = e; higher = a } }
+        go false f true g h = record { entry = inr (tally-entry m (commitRow (q .view .0)) x (q .n) (omega (arith, some-commits, leb-true (q .commits) _ g))); fit = record { enough = e; higher = a } }
         go false f false g h = absurd (false≢true h)
 
     -- THE NEXT DECIDED NAME is x or none
@@ -129,7 +129,7 @@ module _ (m : List ℕ) (row : ℕ) where
       rw (f, g, e) refl
 
 -- ---- THE SURVEY, as the code takes it
-module _ (m : List ℕ) (q : Quest) (after : Choice) {x : List ℕ} {votes commits : ℕ} {v c : Standing} (is-x : x ≡ likely m q) (is-votes : votes ≡ voteRow (q .view)) (is-commits : commits ≡ commitRow (q .view))
+module _ (m : List ℕ) (q : Quorums) (after : Choice) {x : List ℕ} {votes commits : ℕ} {v c : Standing} (is-x : x ≡ likely m q) (is-votes : votes ≡ voteRow (q .view .0)) (is-commits : commits ≡ commitRow (q .view .0))
     (is-v : v ≡ standing m votes (q .n) (q .votes) x) (is-c : c ≡ standing m commits (q .n) (q .commits) x)
   where
     only-is : (v .alone && c .alone) ≡ alone m q (likely m q)
@@ -140,12 +140,12 @@ module _ (m : List ℕ) (q : Quest) (after : Choice) {x : List ℕ} {votes commi
     unfolding standing decided
     decided-is = rw (is-v, is-c, is-votes, is-commits, is-x) refl
 
-    pub survey-lone : q .n ≤ largest → 1 ≤ q .votes → 1 ≤ q .commits → (v .alone && c .alone) ≡ true → {r : Finding} → r ≡ finding (cond ((v .backed || c .backed) && above after x) (chosen x) noChoice) true → r ≡ survey m q after
-    unfolding survey
-    survey-lone small some-votes some-commits a e =
+    pub found-sole : q .n ≤ largest → 1 ≤ q .votes → 1 ≤ q .commits → (v .alone && c .alone) ≡ true → {r : Finding} → r ≡ finding (cond ((v .backed || c .backed) && above after x) (chosen x) noChoice) true → r ≡ findDecided m q after
+    unfolding findDecided
+    found-sole small some-votes some-commits a e =
         let only : alone m q (likely m q) ≡ true = sym only-is ∙ a in
         e ∙ rw (decided-is, is-x, sole-next m q small (likely m q) only some-votes some-commits after, only) refl
 
-    pub survey-search : (v .alone && c .alone) ≡ false → {y : Choice} → y ≡ nextDecided m q after → finding y false ≡ survey m q after
-    unfolding survey
-    survey-search a e = rw (e, sym only-is ∙ a) refl
+    pub found-by-search : (v .alone && c .alone) ≡ false → {y : Choice} → y ≡ nextDecided m q after → finding y false ≡ findDecided m q after
+    unfolding findDecided
+    found-by-search a e = rw (e, sym only-is ∙ a) refl

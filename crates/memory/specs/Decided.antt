@@ -5,7 +5,7 @@ use mathlib.Core.List.{List}
 use lib.Dec.{leb, ltb}
 use Rattle.codec.specs.Names.{nameLength, zeroName, lessBytes}
 use Rattle.memory.specs.declared.decided.Choice.{Choice}
-use Rattle.memory.specs.declared.decided.Quest.{Quest}
+use Rattle.memory.specs.declared.decided.Quorums.{Quorums}
 use Rattle.memory.specs.declared.decided.Standing.{Standing}
 use Rattle.memory.specs.declared.decided.Finding.{Finding}
 use Rattle.memory.specs.Layout.{voteRow, commitRow}
@@ -35,8 +35,8 @@ module _ (m : List ℕ) where
   backed row n quorum x = leb quorum (tally m row x n .count)
 
   -- enough kept votes, or enough kept commits
-  unfoldable pub decided : Quest → List ℕ → Bool
-  decided q x = backed (voteRow (q .view)) (q .n) (q .votes) x || backed (commitRow (q .view)) (q .n) (q .commits) x
+  unfoldable pub decided : Quorums → List ℕ → Bool
+  decided q x = backed (voteRow (q .view .0)) (q .n) (q .votes) x || backed (commitRow (q .view .0)) (q .n) (q .commits) x
 
   -- fewer than a quorum have an entry for another name than x: no other name is backed in the row
   abbrev pub aloneIn : ℕ → ℕ → ℕ → List ℕ → Bool
@@ -46,12 +46,12 @@ module _ (m : List ℕ) where
   standing row n quorum x = record { backed = backed row n quorum x; alone = aloneIn row n quorum x }
 
   -- neither votes nor commits decide another name than x
-  unfoldable pub alone : Quest → List ℕ → Bool
-  alone q x = aloneIn (voteRow (q .view)) (q .n) (q .votes) x && aloneIn (commitRow (q .view)) (q .n) (q .commits) x
+  unfoldable pub alone : Quorums → List ℕ → Bool
+  alone q x = aloneIn (voteRow (q .view .0)) (q .n) (q .votes) x && aloneIn (commitRow (q .view .0)) (q .n) (q .commits) x
 
   -- too few kept votes for any name, and too few kept commits
-  unfoldable pub tooFew : Quest → Bool
-  tooFew q = ltb (keptCount m (voteRow (q .view)) (q .n)) (q .votes) && ltb (keptCount m (commitRow (q .view)) (q .n)) (q .commits)
+  unfoldable pub tooFew : Quorums → Bool
+  tooFew q = ltb (keptCount m (voteRow (q .view .0)) (q .n)) (q .votes) && ltb (keptCount m (commitRow (q .view .0)) (q .n)) (q .commits)
 
   -- replica i's entry in a row, of those names that pass a test
   unfoldable pub consider : ℕ → (List ℕ → Bool) → Choice → ℕ → Choice → Choice
@@ -65,8 +65,8 @@ module _ (m : List ℕ) where
   choose row test after best (suc k) = consider row test after k (choose row test after best k)
 
   -- the least decided name above a bound, of all that are kept for the view
-  unfoldable pub nextDecided : Quest → Choice → Choice
-  nextDecided q after = choose (commitRow (q .view)) (decided q) after (choose (voteRow (q .view)) (decided q) after noChoice (q .n)) (q .n)
+  unfoldable pub nextDecided : Quorums → Choice → Choice
+  nextDecided q after = choose (commitRow (q .view .0)) (decided q) after (choose (voteRow (q .view .0)) (decided q) after noChoice (q .n)) (q .n)
 
   -- the first entry of a row, of k replicas from replica i on
   unfoldable pub firstOf : ℕ → ℕ → ℕ → List ℕ
@@ -74,9 +74,9 @@ module _ (m : List ℕ) where
   firstOf row i (suc k) = cond (has m row i) (kept m row nameLength i) (firstOf row (suc i) k)
 
   -- a name that is decided, if only one can be: the first kept vote, or the first kept commit where the votes are too few
-  unfoldable pub likely : Quest → List ℕ
-  likely q = firstOf (cond (ltb (keptCount m (voteRow (q .view)) (q .n)) (q .votes)) (commitRow (q .view)) (voteRow (q .view))) 0 (q .n)
+  unfoldable pub likely : Quorums → List ℕ
+  likely q = firstOf (cond (ltb (keptCount m (voteRow (q .view .0)) (q .n)) (q .votes)) (commitRow (q .view .0)) (voteRow (q .view .0))) 0 (q .n)
 
   -- the least decided name above a bound, and whether it is clear that no other name is decided
-  unfoldable pub survey : Quest → Choice → Finding
-  survey q after = finding (nextDecided q after) (alone q (likely q))
+  unfoldable pub findDecided : Quorums → Choice → Finding
+  findDecided q after = finding (nextDecided q after) (alone q (likely q))

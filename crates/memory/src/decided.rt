@@ -7,6 +7,7 @@ use crate::kept::kept_count;
 use crate::kept::vote_row;
 use codec::name::less;
 use codec::name_at;
+use settings::View;
 ghost use mathlib.Core.Path.{_≡_};
 ghost use mathlib.Core.Bool.{true, cond, _&&_, _||_};
 ghost use Prim.Native.Nat.{_+_, _≤_, _<_};
@@ -15,7 +16,7 @@ ghost use lib.ListN.{length};
 ghost use Rattle.settings.specs.Quorum.{largest};
 ghost use Rattle.memory.specs.Layout.{memoryLength, rowSize};
 ghost use Rattle.memory.specs.Kept.{keptCount};
-ghost use Rattle.memory.specs.Decided.{noChoice, chosen, tooFew, above, improves, backed, standing, consider, choose, nextDecided, firstOf, likely, finding, survey};
+ghost use Rattle.memory.specs.Decided.{noChoice, chosen, tooFew, above, improves, backed, standing, consider, choose, nextDecided, firstOf, likely, finding, findDecided};
 
 // A name, or none.
 pub struct Choice {
@@ -23,9 +24,9 @@ pub struct Choice {
     pub name: [u8; 32],
 }
 
-// What is looked for: a name of a view that has so many votes or so many commits of the first n replicas.
-pub struct Quest {
-    pub view: u64,
+// What decides a name in a view: so many votes, or so many commits, of the first n replicas.
+pub struct Quorums {
+    pub view: View,
     pub n: usize,
     pub votes: u64,
     pub commits: u64,
@@ -135,7 +136,7 @@ fn choose(mem: &[u8], row: usize, n: usize, quorum: u64, after: Choice, first: C
 }
 
 // So few replicas have a vote, and so few a commit, that no name can be decided.
-pub fn too_few(mem: &[u8], q: Quest) -> bool
+pub fn too_few(mem: &[u8], q: Quorums) -> bool
     requires { ⌜ (memoryLength ≤ length (now mem)) × (q .n ≤ largest) ⌝ }
     ensures { λ r. ⌜ r ≡ tooFew (now (mem .entry)) q ⌝ }
 {
@@ -147,7 +148,7 @@ pub fn too_few(mem: &[u8], q: Quest) -> bool
 
 // The least decided name above a bound. A view with few entries is passed over at once; each row is searched for its own quorum, since a name with
 // enough commits has an entry among the commits.
-pub fn next_decided(mem: &[u8], q: Quest, after: Choice) -> Choice
+pub fn next_decided(mem: &[u8], q: Quorums, after: Choice) -> Choice
     requires { ⌜ (memoryLength ≤ length (now mem)) × ((q .n ≤ largest) × ((1 ≤ q .votes) × (1 ≤ q .commits))) ⌝ }
     ensures { λ r. ⌜ r ≡ nextDecided (now (mem .entry)) q after ⌝ }
 {
@@ -163,7 +164,7 @@ pub fn next_decided(mem: &[u8], q: Quest, after: Choice) -> Choice
 }
 
 // A replica has one entry in a row, so those that don't back the name are for others.
-pub fn weigh(mem: &[u8], row: usize, n: usize, quorum: u64, name: [u8; 32]) -> Standing
+pub fn standing_of(mem: &[u8], row: usize, n: usize, quorum: u64, name: [u8; 32]) -> Standing
     requires { ⌜ (memoryLength ≤ length (now mem)) × ((row + rowSize 32 ≤ memoryLength) × (n ≤ largest)) ⌝ }
     ensures { λ r. ⌜ r ≡ standing (now (mem .entry)) row n quorum name ⌝ }
 {
@@ -190,8 +191,8 @@ fn first_name(mem: &[u8], row: usize, n: usize) -> [u8; 32]
     [0u8; 32]
 }
 
-// The name that is weighed: the first kept vote, or the first kept commit where the votes are too few. Any other would do, and mostly be in vain.
-fn likely(mem: &[u8], q: Quest) -> [u8; 32]
+// The name that is counted: the first kept vote, or the first kept commit where the votes are too few. Any other would do, and mostly be in vain.
+fn likely(mem: &[u8], q: Quorums) -> [u8; 32]
     requires { ⌜ (memoryLength ≤ length (now mem)) × (q .n ≤ largest) ⌝ }
     ensures { λ r. ⌜ r ≡ likely (now (mem .entry)) q ⌝ }
 {
@@ -202,7 +203,7 @@ fn likely(mem: &[u8], q: Quest) -> [u8; 32]
 }
 
 // The one name that votes or commits may have decided, if they have and it is above the bound.
-fn lone(voted: bool, committed: bool, after: Choice, name: [u8; 32]) -> Finding
+fn sole_finding(voted: bool, committed: bool, after: Choice, name: [u8; 32]) -> Finding
     ensures { λ r. ⌜ r ≡ finding (cond ((voted || committed) && above after name) (chosen name) noChoice) true ⌝ }
 {
     let none = Finding {
@@ -237,15 +238,15 @@ fn both(a: bool, b: bool) -> bool
 }
 
 // As `next_decided`. Mostly a view has entries for one name alone: that is counted once, and nothing else is looked at.
-pub fn survey(mem: &[u8], q: Quest, after: Choice) -> Finding
+pub fn find_decided(mem: &[u8], q: Quorums, after: Choice) -> Finding
     requires { ⌜ (memoryLength ≤ length (now mem)) × ((q .n ≤ largest) × ((1 ≤ q .votes) × (1 ≤ q .commits))) ⌝ }
-    ensures { λ r. ⌜ r ≡ survey (now (mem .entry)) q after ⌝ }
+    ensures { λ r. ⌜ r ≡ findDecided (now (mem .entry)) q after ⌝ }
 {
     let name = likely(mem, q);
-    let v = weigh(mem, vote_row(q.view), q.n, q.votes, name);
-    let c = weigh(mem, commit_row(q.view), q.n, q.commits, name);
+    let v = standing_of(mem, vote_row(q.view), q.n, q.votes, name);
+    let c = standing_of(mem, commit_row(q.view), q.n, q.commits, name);
     if both(v.alone, c.alone) {
-        return lone(v.backed, c.backed, after, name);
+        return sole_finding(v.backed, c.backed, after, name);
     }
     let x = next_decided(mem, q, after);
     let found = x.name;

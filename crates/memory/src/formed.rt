@@ -2,6 +2,7 @@
 use crate::kept::gather;
 use crate::kept::timeout_row;
 use settings::View;
+use wire::length;
 use wire::write::put_timeouts_head;
 ghost use mathlib.Core.Path.{_≡_};
 ghost use Prim.Native.Nat.{_+_, _*_, _≤_};
@@ -16,7 +17,14 @@ pub fn form(mem: &[u8], view: View, n: usize, sender: u16, out: &mut [u8], at: u
     requires { ⌜ (memoryLength ≤ length (now mem)) × ((n ≤ largest) × (at + (24 + 112 * n) ≤ length (now out))) ⌝ }
     ensures { λ r. ⌜ (r ≡ at + length (formed (now (mem .entry)) (view .0) n sender)) × (now (out .exit) ≡ patch (now (out .entry)) at (formed (now (mem .entry)) (view .0) n sender)) ⌝ }
 {
-    let end = gather(mem, timeout_row(view.0), 112, n, out, at + 24);
-    put_timeouts_head(out, at, sender, view, end - (at + 24));
+    let end = gather(
+        mem,
+        timeout_row(view),
+        length::TIMEOUT,
+        n,
+        out,
+        at + length::TIMEOUTS_HEAD,
+    );
+    put_timeouts_head(out, at, sender, view, end - (at + length::TIMEOUTS_HEAD));
     end
 }

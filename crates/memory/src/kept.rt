@@ -7,6 +7,8 @@ use codec::num::put_u64;
 use codec::num::u64_at;
 use codec::put;
 use settings::Settings;
+use settings::View;
+use wire::length;
 ghost use mathlib.Core.Path.{_≡_};
 ghost use Prim.Native.Nat.{_+_, _*_, _≤_, _<_, _^_};
 ghost use lib.ListN.{length};
@@ -19,13 +21,16 @@ const LARGEST: usize = Settings::LARGEST as usize;
 
 const NAME_ROW: usize = 8 + 32 * LARGEST;
 
-const TIMEOUT_ROW: usize = 8 + 112 * LARGEST;
+const TIMEOUT_ROW: usize = 8 + length::TIMEOUT * LARGEST;
 
-const VOTES: usize = 16 + (24 + 112 * LARGEST);
+const VOTES: usize = crate::ENTRY_PLACE + length::LONGEST_CERTIFICATE;
 
-const COMMITS: usize = VOTES + NAME_ROW * 8;
+const COMMITS: usize = VOTES + NAME_ROW * crate::BALLOT_ROWS as usize;
 
-const TIMEOUTS: usize = COMMITS + NAME_ROW * 8;
+const TIMEOUTS: usize = COMMITS + NAME_ROW * crate::BALLOT_ROWS as usize;
+
+// Where the last row ends.
+pub const END: usize = TIMEOUTS + TIMEOUT_ROW * crate::TIMEOUT_ROWS as usize;
 
 // How many replicas back a name, and which.
 pub struct Tally {
@@ -33,22 +38,22 @@ pub struct Tally {
     pub signers: u64,
 }
 
-pub fn vote_row(view: u64) -> usize
-    ensures { λ r. ⌜ r ≡ voteRow view ⌝ }
+pub fn vote_row(view: View) -> usize
+    ensures { λ r. ⌜ r ≡ voteRow (view .0) ⌝ }
 {
-    VOTES + NAME_ROW * (view % 8) as usize
+    VOTES + NAME_ROW * (view.0 % crate::BALLOT_ROWS) as usize
 }
 
-pub fn commit_row(view: u64) -> usize
-    ensures { λ r. ⌜ r ≡ commitRow view ⌝ }
+pub fn commit_row(view: View) -> usize
+    ensures { λ r. ⌜ r ≡ commitRow (view .0) ⌝ }
 {
-    COMMITS + NAME_ROW * (view % 8) as usize
+    COMMITS + NAME_ROW * (view.0 % crate::BALLOT_ROWS) as usize
 }
 
-pub fn timeout_row(view: u64) -> usize
-    ensures { λ r. ⌜ r ≡ timeoutRow view ⌝ }
+pub fn timeout_row(view: View) -> usize
+    ensures { λ r. ⌜ r ≡ timeoutRow (view .0) ⌝ }
 {
-    TIMEOUTS + TIMEOUT_ROW * (view % 4) as usize
+    TIMEOUTS + TIMEOUT_ROW * (view.0 % crate::TIMEOUT_ROWS) as usize
 }
 
 pub fn mask(mem: &[u8], row: usize) -> u64

@@ -15,6 +15,17 @@ ghost use Prim.Native.Nat.{_+_, _≤_};
 ghost use lib.ListN.{length};
 ghost use Rattle.memory.specs.Layout.{settingsOf, ownOf, blockCountOf, entryLengthOf, withBlockCount, withEntry};
 
+// Where the entry certificate stands.
+pub const ENTRY_PLACE: usize = 16;
+
+// Votes and commits are kept for so many views, and timeouts for so many.
+pub const BALLOT_ROWS: u64 = 8;
+
+pub const TIMEOUT_ROWS: u64 = 4;
+
+// The memory that a host lends has at least so many bytes.
+pub const LENGTH: usize = kept::END;
+
 pub fn settings(mem: &[u8]) -> Settings
     requires { ⌜ 16 ≤ length (now mem) ⌝ }
     ensures { λ r. ⌜ r ≡ settingsOf (now (mem .entry)) ⌝ }
@@ -60,5 +71,5 @@ pub fn put_entry(mem: &mut [u8], rec: &[u8])
     ensures { λ _. ⌜ now (mem .exit) ≡ withEntry (now (mem .entry)) (now (rec .entry)) ⌝ }
 {
     put_u16(mem, 10, rec.len() as u16);
-    put(mem, 16, rec);
+    put(mem, ENTRY_PLACE, rec);
 }

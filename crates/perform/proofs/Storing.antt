@@ -11,7 +11,7 @@ use lib.ListN.{length, take, replicate, length-replicate}
 use Rattle.settings.specs.Quorum.{lastHeight}
 use Rattle.codec.specs.Bytes.{IsBytes}
 use Rattle.codec.specs.Names.{sameBytes}
-use Rattle.codec.proofs.Le.{bytes-drop}
+use Rattle.codec.proofs.Le.{bytes-part, bytes-drop}
 use Rattle.codec.proofs.Order.{same-refl, same-eq}
 use Rattle.wire.specs.Content.{Certificate, byBlock, byTimeouts, certificateOf, Content, vote, commit, certificate, timeout, proposal, block, release, content, timeoutOf}
 use Rattle.wire.specs.Fields.{kindOf, senderOf, viewOf, nameOf, progressOf, blockNameOf, releaseHeightOf}
@@ -20,7 +20,6 @@ use Rattle.wire.specs.Shape.{shapeRules}
 use Rattle.wire.proofs.Accepted.{taken}
 use Rattle.wire.proofs.Contents.{content-stands}
 use Rattle.wire.proofs.Facts.{Quiet}
-use Rattle.wire.proofs.Rows.{bytes-part}
 use Rattle.blocks.specs.declared.Block.{Block}
 use Rattle.blocks.specs.Store.{found, find, held}
 use Rattle.memory.specs.Layout.{entryOf, blockCountOf}

@@ -16,6 +16,7 @@ use judge::chain::record_chain;
 use memory::block_count;
 use rules::phases::run;
 use settings::Height;
+use settings::View;
 ghost use mathlib.Core.Path.{_≡_};
 ghost use mathlib.Core.Bool.{not};
 ghost use Prim.Native.Nat.{_+_};
@@ -80,18 +81,18 @@ fn finish(mem: &mut [u8], out: &mut [u8], d: Draft, place: usize, block: Block) 
     }
 }
 
-fn timer_accepted(mem: &mut [u8], out: &mut [u8], d: Draft, view: u64) -> Done
+fn timer_accepted(mem: &mut [u8], out: &mut [u8], d: Draft, view: View) -> Done
     requires { ⌜ Ready d (now mem) (now out) callRoom ⌝ }
-    ensures { λ r. ⌜ Completes (onTimer view) Always d (now (mem .entry)) (now (out .entry)) r (now (mem .exit)) (now (out .exit)) ⌝ }
+    ensures { λ r. ⌜ Completes (onTimer (view .0)) Always d (now (mem .entry)) (now (out .entry)) r (now (mem .exit)) (now (out .exit)) ⌝ }
 {
     let e = on_timer(mem, out, d, view);
     finish(mem, out, e.draft, e.place, e.block)
 }
 
 // The timer of a view, of which `judge` has answered.
-pub fn timer(c: Counters, mem: &mut [u8], out: &mut [u8], number: u64, view: u64) -> Done
-    requires { ⌜ Lent (TimerJudged (length (now out)) view number) (lent c (now mem)) ⌝ }
-    ensures { λ r. ⌜ Performs (timerNumber (length (now (out .entry))) view) (onTimer view) (TimerJudged (length (now (out .entry))) view number) c (now (mem .entry)) (now (out .entry)) r (now (mem .exit)) (now (out .exit)) ⌝ }
+pub fn timer(c: Counters, mem: &mut [u8], out: &mut [u8], number: u64, view: View) -> Done
+    requires { ⌜ Lent (TimerJudged (length (now out)) (view .0) number) (lent c (now mem)) ⌝ }
+    ensures { λ r. ⌜ Performs (timerNumber (length (now (out .entry))) (view .0)) (onTimer (view .0)) (TimerJudged (length (now (out .entry))) (view .0) number) c (now (mem .entry)) (now (out .entry)) r (now (mem .exit)) (now (out .exit)) ⌝ }
 {
     let judged = refused(c, number);
     if ends(judged) {

@@ -8,6 +8,7 @@ use native.Mathlib.Omega.{arith}
 use borrow.Author.Tests.{leb-false, ltb-false}
 use lib.ListN.{length}
 use lib.Dec.{leb, ltb, eqb}
+use Rattle.codec.proofs.Le.{bytes-part}
 use Rattle.settings.specs.declared.Settings.{Settings}
 use Rattle.settings.specs.Quorum.{largest, lastView, lastHeight}
 use Rattle.codec.specs.Names.{zeroName}
@@ -17,7 +18,6 @@ use Rattle.wire.specs.Content.{certificateOf, Content, certificate, proposal}
 use Rattle.wire.specs.Fit.{IsName, Fits, Proper}
 use Rattle.wire.proofs.Frames.{or-false}
 use Rattle.wire.proofs.Facts.{Quiet, Framed}
-use Rattle.wire.proofs.Rows.{bytes-part}
 use Rattle.wire.proofs.Contents.{certificate-back}
 use Rattle.certificate.specs.Safe.{safeCertificate}
 use Rattle.blocks.specs.declared.Block.{Block}

@@ -10,7 +10,7 @@ use lib.Dec.{eqb}
 use lib.ListN.{length}
 use Rattle.settings.specs.Quorum.{lastView, lastHeight}
 use Rattle.codec.specs.Bytes.{IsBytes}
-use Rattle.codec.proofs.Le.{bytes-drop}
+use Rattle.codec.proofs.Le.{bytes-part, bytes-drop}
 use Rattle.codec.proofs.Order.{and-true}
 use Rattle.wire.specs.declared.Timeout.{Timeout}
 use Rattle.wire.specs.Fields.{viewOf, countOf, progressOf, voteLength, timeoutLength, proposalHead}
@@ -18,7 +18,6 @@ use Rattle.wire.specs.Content.{Certificate, byBlock, byTimeouts, certificateOf,
 use Rattle.wire.specs.Encode.{proposalBytes, encode}
 use Rattle.wire.specs.Fit.{IsName, IsU64, CertificateFits, Fits, TimeoutsProper, CertificateProper, Proper}
 use Rattle.wire.specs.Shape.{shapeRules}
-use Rattle.wire.proofs.Rows.{bytes-part}
 use Rattle.wire.proofs.Lengths.{length-timeout, length-proposal}
 use Rattle.wire.proofs.Tables.{Stands, stands-encode, encode-stands, length-stands, length-row}
 use Rattle.wire.proofs.Contents.{content-stands}

@@ -13,18 +13,18 @@ use Rattle.settings.specs.Quorum.{largest, lastView, replicas}
 use Rattle.codec.specs.Bytes.{IsBytes, part, leNat, leBytes}
 use Rattle.codec.specs.Names.{nameLength}
 use Rattle.codec.proofs.Laws.{part-before, part-behind, length-patch, bytes-patch}
-use Rattle.codec.proofs.Le.{leNat-part, length-leBytes}
+use Rattle.codec.proofs.Le.{bytes-part, leNat-part, length-leBytes}
 use Rattle.wire.specs.Fields.{kindOf, viewOf, countOf, blockCertificateLength, timeoutLength, timeoutsHead, slots}
 use Rattle.wire.specs.Content.{Certificate, byBlock, byTimeouts, certificateOf, certificate, timeoutOf}
 use Rattle.wire.specs.Encode.{headerBytes, blockCertificateBytes, timeoutsBytes, encode, certificateBytes}
 use Rattle.wire.specs.Fit.{IsName, IsU16, IsU64, All, CertificateFits, Fits}
 use Rattle.wire.proofs.Lengths.{length-blockCertificate, length-timeouts}
-use Rattle.wire.proofs.Rows.{bytes-append, bytes-part, bytes-leBytes, Field, num, FieldFits, Reads, written, reads-written, bytes-written}
+use Rattle.wire.proofs.Rows.{bytes-append, bytes-leBytes, Field, num, FieldFits, Reads, written, reads-written, bytes-written}
 use Rattle.wire.proofs.Tables.{stands-encode, bytes-encode}
 use Rattle.certificate.specs.Safe.{safeCertificate}
 use Rattle.certificate.proofs.Timeouts.{count-timeouts}
 use Rattle.memory.specs.declared.decided.Choice.{Choice}
-use Rattle.memory.specs.declared.decided.Quest.{Quest}
+use Rattle.memory.specs.declared.decided.Quorums.{Quorums}
 use Rattle.memory.specs.Layout.{memoryLength, rowSize, voteRow, commitRow, timeoutRow}
 use Rattle.memory.specs.Kept.{has, kept, gathered, tally}
 use Rattle.memory.specs.Decided.{nextDecided}
@@ -156,9 +156,9 @@ unfolding kept
 kept-name m row i b h l = part-is-name m _ b (omega (arith, entry-inside nameLength i largest h))
 
 -- a decided name is one that is kept: 32 bytes
-pub decided-name : (m : List ℕ) (q : Quest) (after : Choice) → IsBytes m → memoryLength ≤ length m → q .n ≤ largest → nextDecided m q after .some ≡ true → IsName (nextDecided m q after .name)
+pub decided-name : (m : List ℕ) (q : Quorums) (after : Choice) → IsBytes m → memoryLength ≤ length m → q .n ≤ largest → nextDecided m q after .some ≡ true → IsName (nextDecided m q after .name)
 decided-name m q after b long few e =
-    ⊎-elim (entry (voteRow (q .view)) _ (omega (arith, row-fits votes (q .view)))) (entry (commitRow (q .view)) _ (omega (arith, row-fits commits (q .view))))
+    ⊎-elim (entry (voteRow (q .view .0)) _ (omega (arith, row-fits votes (q .view .0)))) (entry (commitRow (q .view .0)) _ (omega (arith, row-fits commits (q .view .0))))
     (next-candidate m q after e .entry)
   where
     entry : (row : ℕ) (x : List ℕ) → row + rowSize nameLength ≤ length m → Entry m row (q .n) x → IsName x

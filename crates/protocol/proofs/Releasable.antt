@@ -13,7 +13,7 @@ use Rattle.codec.specs.Names.{nameLength, lessBytes}
 use Rattle.codec.proofs.Order.{and-true, less-irrefl, less-trans, less-total}
 use Rattle.blocks.specs.Store.{descends}
 use Rattle.memory.specs.declared.decided.Choice.{Choice}
-use Rattle.memory.specs.declared.decided.Quest.{Quest}
+use Rattle.memory.specs.declared.decided.Quorums.{Quorums}
 use Rattle.memory.specs.Layout.{voteRow, commitRow}
 use Rattle.memory.specs.Kept.{has, kept}
 use Rattle.memory.specs.Decided.{noChoice, above, decided, nextDecided}
@@ -50,8 +50,8 @@ counted-less t u i (suc n) l e f h = go (t n) refl (u n) refl (λ m. counted-les
     go false a false b r m = let d : i ≡ n → ⊥ = λ d. false≢true (here false false a b d .1) in r (omega arith)
 
 module _ (w : ℕ) (W : Work) where
-  abbrev quest : Quest
-  quest = enoughToRelease w W
+  abbrev quorums : Quorums
+  quorums = enoughToRelease w W
 
   -- a name that can be released: enough votes or commits, and its block is held and leads down to the tip
   pub record Good (y : List ℕ) : Type 0 where
@@ -60,7 +60,7 @@ module _ (w : ℕ) (W : Work) where
     pub down : descends (tip W) (blocks W) (heldBlock W y .block) ≡ true
 
   -- ---- enough, as the search tests it
-  decided-enough : (y : List ℕ) → decided (W .memory) quest y ≡ true → (fastQuorum (settings W) ≤ votesFor w W y) ⊎ (slowQuorum (settings W) ≤ commitsFor w W y)
+  decided-enough : (y : List ℕ) → decided (W .memory) quorums y ≡ true → (fastQuorum (settings W) ≤ votesFor w W y) ⊎ (slowQuorum (settings W) ≤ commitsFor w W y)
   unfolding decided
   decided-enough y e = go (leb (fastQuorum (settings W)) (votesFor w W y)) refl e
     where
@@ -69,7 +69,7 @@ module _ (w : ℕ) (W : Work) where
       go true a b = inl (leb-true _ _ a)
       go false a b = inr (leb-true _ _ b)
 
-  enough-decided : (y : List ℕ) → (fastQuorum (settings W) ≤ votesFor w W y) ⊎ (slowQuorum (settings W) ≤ commitsFor w W y) → decided (W .memory) quest y ≡ true
+  enough-decided : (y : List ℕ) → (fastQuorum (settings W) ≤ votesFor w W y) ⊎ (slowQuorum (settings W) ≤ commitsFor w W y) → decided (W .memory) quorums y ≡ true
   unfolding decided
   enough-decided y (inl h) = rw (le-leb _ _ h)
   enough-decided y (inr h) = rw (le-leb (slowQuorum (settings W)) (commitsFor w W y) h) (go (leb (fastQuorum (settings W)) (votesFor w W y)))
@@ -84,7 +84,7 @@ module _ (w : ℕ) (W : Work) where
   enough-entry y (inl h) = inl (backed-entry (W .memory) (voteRow w) y (n W) (omega arith))
   enough-entry y (inr h) = inr (backed-entry (W .memory) (commitRow w) y (n W) (omega arith))
 
-  good-candidate : (after : Choice) (y : List ℕ) → Good y → above after y ≡ true → Candidate (W .memory) quest after y
+  good-candidate : (after : Choice) (y : List ℕ) → Good y → above after y ≡ true → Candidate (W .memory) quorums after y
   good-candidate after y g a = record { entry = enough-entry y (g .enough); fit = record { enough = enough-decided y (g .enough); higher = a } }
 
   -- ---- how many entries are above a bound
@@ -143,41 +143,41 @@ module _ (w : ℕ) (W : Work) where
   passes-good y g = rw (g .is, g .down)
 
   -- nothing is decided above the bound
-  finds-none : (after : Choice) → nextDecided (W .memory) quest after .some ≡ false → Finds after noChoice
+  finds-none : (after : Choice) → nextDecided (W .memory) quorums after .some ≡ false → Finds after noChoice
   finds-none after e = record {
     good = λ f. absurd (false≢true f);
     least = λ f. absurd (false≢true f);
-    none = λ f y a g. next-none (W .memory) quest after e y (good-candidate after y g a);
+    none = λ f y a g. next-none (W .memory) quorums after e y (good-candidate after y g a);
   }
 
   -- the next decided name can be released
-  finds-this : (after : Choice) → (nextDecided (W .memory) quest after) .some ≡ true → test (nextDecided (W .memory) quest after) ≡ true → Finds after (nextDecided (W .memory) quest after)
+  finds-this : (after : Choice) → (nextDecided (W .memory) quorums after) .some ≡ true → test (nextDecided (W .memory) quorums after) ≡ true → Finds after (nextDecided (W .memory) quorums after)
   unfolding test
   finds-this after e t =
-      let x = nextDecided (W .memory) quest after in
-      let c = next-candidate (W .memory) quest after e in
+      let x = nextDecided (W .memory) quorums after in
+      let c = next-candidate (W .memory) quorums after e in
       let p = and-true (heldBlock W (x .name) .is) (descends (tip W) (blocks W) (heldBlock W (x .name) .block)) t in
       record {
         good = λ _. record { enough = decided-enough (x .name) (c .fit .enough); is = p .0; down = p .1 };
-        least = λ _ y l a g. true≢false (sym l ∙ next-least (W .memory) quest after y (good-candidate after y g a) .least);
+        least = λ _ y l a g. true≢false (sym l ∙ next-least (W .memory) quorums after y (good-candidate after y g a) .least);
         none = λ f. absurd (true≢false (sym e ∙ f));
       }
 
   -- it cannot: go on from it
-  finds-later : (after found : Choice) → (nextDecided (W .memory) quest after) .some ≡ true → test (nextDecided (W .memory) quest after) ≡ false
-      → Finds (nextDecided (W .memory) quest after) found → Finds after found
+  finds-later : (after found : Choice) → (nextDecided (W .memory) quorums after) .some ≡ true → test (nextDecided (W .memory) quorums after) ≡ false
+      → Finds (nextDecided (W .memory) quorums after) found → Finds after found
   unfolding test
   finds-later after found e t F = record { good = F .good; least = λ f y l a g. F .least f y l (on y a g) g; none = λ f y a g. F .none f y (on y a g) g }
     where
       x : Choice
-      x = nextDecided (W .memory) quest after
+      x = nextDecided (W .memory) quorums after
 
       on : (y : List ℕ) → above after y ≡ true → Good y → above x y ≡ true
       on y a g =
-          ⊎-elim (λ l. less-above after x e (next-candidate (W .memory) quest after e .fit .higher) y ∙ l)
+          ⊎-elim (λ l. less-above after x e (next-candidate (W .memory) quorums after e .fit .higher) y ∙ l)
           (⊎-elim
           (λ q. absurd (true≢false (sym (passes-good (x .name) (subst Good (sym q) g)) ∙ t)))
-          (λ l. absurd (true≢false (sym l ∙ next-least (W .memory) quest after y (good-candidate after y g a) .least))))
+          (λ l. absurd (true≢false (sym l ∙ next-least (W .memory) quorums after y (good-candidate after y g a) .least))))
           (less-total (x .name) y)
 
   search-finds : (k : ℕ) (after : Choice) → left after < k → Finds after (releasable w W k after)
@@ -186,13 +186,13 @@ module _ (w : ℕ) (W : Work) where
   search-finds (suc k) after h = go (x .some) refl (test x) refl (search-finds k x)
     where
       x : Choice
-      x = nextDecided (W .memory) quest after
+      x = nextDecided (W .memory) quorums after
 
       go : (p : Bool) → x .some ≡ p → (t : Bool) → test x ≡ t → (left x < k → Finds x (releasable w W k x)) → Finds after (cond p (cond t x (releasable w W k x)) noChoice)
       go false e t d r = finds-none after e
       go true e true d r = finds-this after e d
       go true e false d r =
-          let c = next-candidate (W .memory) quest after e in
+          let c = next-candidate (W .memory) quorums after e in
           finds-later after (releasable w W k x) e d (r (omega (arith, left-less after x e (c .fit .higher) (c .entry))))
 
   -- THE NAME TO RELEASE at view w

@@ -12,12 +12,11 @@ use Rattle.settings.specs.Quorum.{replicas}
 use Rattle.codec.specs.Bytes.{IsBytes, part}
 use Rattle.codec.specs.Names.{sameBytes, zeroName, nameLength}
 use Rattle.codec.proofs.Laws.{length-part}
-use Rattle.codec.proofs.Le.{leNat-part, bytes-drop}
+use Rattle.codec.proofs.Le.{bytes-part, leNat-part, bytes-drop}
 use Rattle.wire.specs.declared.Timeout.{Timeout}
 use Rattle.wire.specs.Fields.{countOf, timeoutLength, timeoutsHead, slots}
 use Rattle.wire.specs.Content.{timeoutOf}
 use Rattle.wire.specs.Fit.{IsName, TimeoutFits, All}
-use Rattle.wire.proofs.Rows.{bytes-part}
 use Rattle.wire.proofs.Slots.{all-map, all-impl, FullLength, cut-whole}
 use Rattle.certificate.specs.declared.Certificate.{Certificate}
 use Rattle.certificate.specs.Rank.{carriedCertificate, highest}

@@ -10,14 +10,14 @@ use Rattle.certificate.specs.Rank.{blockCertificate, outranks}
 use Rattle.blocks.specs.declared.Block.{Block}
 use Rattle.blocks.specs.Store.{descends}
 use Rattle.memory.specs.declared.decided.Choice.{Choice}
-use Rattle.memory.specs.declared.decided.Quest.{Quest}
+use Rattle.memory.specs.declared.decided.Quorums.{Quorums}
 use Rattle.memory.specs.Layout.{voteRow, timeoutRow}
 use Rattle.memory.specs.Kept.{keptCount, tally}
 use Rattle.memory.specs.Window.{lowest, highest}
 use Rattle.memory.specs.Decided.{noChoice, nextDecided}
 use Rattle.memory.specs.Formed.{formed}
 use Rattle.counters.specs.Counters.{locksOf}
-use Rattle.protocol.specs.Work.{Work, settings, n, own, viewNow, timed, tip, blocks, heldBlock, sendTimeout, release}
+use Rattle.protocol.specs.Work.{Work, view, settings, n, own, viewNow, timed, tip, blocks, heldBlock, sendTimeout, release}
 use Rattle.protocol.specs.Events.{progress}
 
 module _ (v : ℕ) (W : Work) where
@@ -36,8 +36,8 @@ module _ (v : ℕ) (W : Work) where
   ruleB = cond testB (progress (formed (W .memory) v (n W) (own W)) W) W
 
   -- "C, enough votes whose certificate outranks the lock: form it, its signers all boxes with that kept vote."
-  abbrev pub enoughVotes : Quest
-  enoughVotes = record { view = v; n = n W; votes = blockQuorum (settings W); commits = suc (n W) }
+  abbrev pub enoughVotes : Quorums
+  enoughVotes = record { view = view v; n = n W; votes = blockQuorum (settings W); commits = suc (n W) }
 
   abbrev pub formedBlock : List ℕ → List ℕ
   formedBlock x = blockCertificateBytes (own W) v x (tally (W .memory) (voteRow v) x (n W) .signers)
@@ -49,8 +49,8 @@ module _ (v : ℕ) (W : Work) where
       (progress (formedBlock (x .name)) W) W
 
   -- "D, a fast or slow release of a held block above the tip"
-  abbrev pub enoughToRelease : Quest
-  enoughToRelease = record { view = v; n = n W; votes = fastQuorum (settings W); commits = slowQuorum (settings W) }
+  abbrev pub enoughToRelease : Quorums
+  enoughToRelease = record { view = view v; n = n W; votes = fastQuorum (settings W); commits = slowQuorum (settings W) }
 
   -- the least decided name of the view whose block is held and leads to the tip: at most k names are tried
   unfoldable pub releasable : ℕ → Choice → Choice

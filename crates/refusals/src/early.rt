@@ -26,6 +26,7 @@ use wire::BlockCertificate;
 use wire::Progress;
 use wire::TimeoutCertificate;
 use wire::Vote;
+use wire::length;
 use wire::read::progress;
 use wire::read::vote;
 ghost use mathlib.Core.Path.{_≡_};
@@ -59,25 +60,25 @@ fn not_other(mem: &[u8], sender: u64) -> bool
 }
 
 // 7: below the current view, or view 0.
-pub fn below_view(view: u64, v: u64) -> bool
-    ensures { λ r. ⌜ r ≡ (ltb v view || eqb v 0) ⌝ }
+pub fn below_view(current: View, v: View) -> bool
+    ensures { λ r. ⌜ r ≡ (ltb (v .0) (current .0) || eqb (v .0) 0) ⌝ }
 {
-    if v < view {
+    if v.0 < current.0 {
         return true;
     }
-    v == 0
+    v.0 == 0
 }
 
 // 8: above the window, which ends below the last view.
-fn above_window(view: u64, v: u64) -> bool
-    ensures { λ r. ⌜ r ≡ (ltb (view + 3) v || leb lastView v) ⌝ }
+fn above_window(current: View, v: View) -> bool
+    ensures { λ r. ⌜ r ≡ (ltb (current .0 + 3) (v .0) || leb lastView (v .0)) ⌝ }
 {
-    if view < v {
-        if 3 < v - view {
+    if current.0 < v.0 {
+        if 3 < v.0 - current.0 {
             return true;
         }
     }
-    View::LAST <= v
+    View::LAST.0 <= v.0
 }
 
 // Kinds 1 and 2, kept in a row.
@@ -89,10 +90,10 @@ fn ballot(c: Counters, mem: &[u8], row: usize, sender: u64, vote: Vote) -> u64
     if not_other(mem, sender) {
         return 6;
     }
-    if vote.view.0 < lowest(c.view.0) {
+    if vote.view.0 < lowest(c.view).0 {
         return 7;
     }
-    if above_window(c.view.0, vote.view.0) {
+    if above_window(c.view, vote.view) {
         return 8;
     }
     if !has(mem, row, sender) {
@@ -109,7 +110,7 @@ fn vote_early(c: Counters, mem: &[u8], rec: &[u8]) -> u64
     ensures { λ r. ⌜ r ≡ firstOf (refusals (lent c (now (mem .entry)) []) (now (rec .entry)) (vote (senderOf (now (rec .entry))) (viewOf (now (rec .entry))) (nameOf (now (rec .entry))))) ⌝ }
 {
     let v = vote(rec, 8);
-    let row = vote_row(v.view.0);
+    let row = vote_row(v.view);
     ballot(c, mem, row, u16_at(rec, 6) as u64, v)
 }
 
@@ -118,7 +119,7 @@ fn commit_early(c: Counters, mem: &[u8], rec: &[u8]) -> u64
     ensures { λ r. ⌜ r ≡ firstOf (refusals (lent c (now (mem .entry)) []) (now (rec .entry)) (commit (senderOf (now (rec .entry))) (viewOf (now (rec .entry))) (nameOf (now (rec .entry))))) ⌝ }
 {
     let v = vote(rec, 8);
-    let row = commit_row(v.view.0);
+    let row = commit_row(v.view);
     ballot(c, mem, row, u16_at(rec, 6) as u64, v)
 }
 
@@ -132,7 +133,7 @@ fn block_certificate_early(c: Counters, mem: &[u8], rec: &[u8], b: BlockCertific
         return 6;
     }
     let k = block_certificate(rec, b);
-    if View::LAST <= k.view.0 {
+    if View::LAST.0 <= k.view.0 {
         return 8;
     }
     if !k.is_good(s) {
@@ -155,11 +156,11 @@ fn timeout_certificate_early(c: Counters, mem: &[u8], rec: &[u8], t: TimeoutCert
     if s.n() <= u16_at(rec, 6) as u64 {
         return 6;
     }
-    let v = u64_at(rec, t.place + 8);
-    if below_view(c.view.0, v) {
+    let v = View(u64_at(rec, t.place + 8));
+    if below_view(c.view, v) {
         return 7;
     }
-    if View::LAST <= v {
+    if View::LAST.0 <= v.0 {
         return 8;
     }
     if timeouts_good(rec, t, s) {
@@ -188,8 +189,8 @@ fn timeout_kept(mem: &[u8], row: usize, sender: u64, rec: &[u8]) -> u64
     if !has(mem, row, sender) {
         return 0;
     }
-    let at = entry_at(row, 112, sender as usize);
-    if same_bytes(&mem[at..at + 112], rec) {
+    let at = entry_at(row, length::TIMEOUT, sender as usize);
+    if same_bytes(&mem[at..at + length::TIMEOUT], rec) {
         return 10;
     }
     11
@@ -201,14 +202,14 @@ fn timeout_early(c: Counters, mem: &[u8], rec: &[u8]) -> u64
     ensures { λ r. ⌜ r ≡ firstOf (refusals (lent c (now (mem .entry)) []) (now (rec .entry)) (timeout (timeoutOf (now (rec .entry))))) ⌝ }
 {
     let sender = u16_at(rec, 6) as u64;
-    let v = u64_at(rec, 8);
+    let v = View(u64_at(rec, 8));
     if not_other(mem, sender) {
         return 6;
     }
-    if below_view(c.view.0, v) {
+    if below_view(c.view, v) {
         return 7;
     }
-    if above_window(c.view.0, v) {
+    if above_window(c.view, v) {
         return 8;
     }
     if !timeout_good(rec, settings(mem)) {
@@ -218,51 +219,51 @@ fn timeout_early(c: Counters, mem: &[u8], rec: &[u8]) -> u64
 }
 
 // 6 of kind 7: not by another replica, or not by the leader of its view.
-fn not_leader(mem: &[u8], sender: u64, v: u64) -> bool
+fn not_leader(mem: &[u8], sender: u64, v: View) -> bool
     requires { ⌜ 16 ≤ length (now mem) ⌝ }
-    ensures { λ r. ⌜ r ≡ ((leb (replicas (settingsOf (now (mem .entry)))) sender || eqb sender (ownOf (now (mem .entry)))) || (ltb 0 v && not (eqb sender (leaderOf (settingsOf (now (mem .entry))) v)))) ⌝ }
+    ensures { λ r. ⌜ r ≡ ((leb (replicas (settingsOf (now (mem .entry)))) sender || eqb sender (ownOf (now (mem .entry)))) || (ltb 0 (v .0) && not (eqb sender (leaderOf (settingsOf (now (mem .entry))) (v .0))))) ⌝ }
 {
     if not_other(mem, sender) {
         return true;
     }
-    if v == 0 {
+    if v.0 == 0 {
         return false;
     }
     sender != leader(settings(mem), v)
 }
 
 // The view of a progress certificate.
-fn progress_view(rec: &[u8], progress: Progress) -> u64
+fn progress_view(rec: &[u8], progress: Progress) -> View
     requires { ⌜ Within (now rec) progress ⌝ }
-    ensures { λ r. ⌜ r ≡ viewOfProgress (progressMeans (now (rec .entry)) progress) ⌝ }
+    ensures { λ r. ⌜ r .0 ≡ viewOfProgress (progressMeans (now (rec .entry)) progress) ⌝ }
 {
     match progress {
-        Progress::Block(b) => b.view.0,
-        Progress::Timeouts(t) => u64_at(rec, t.place + 8),
+        Progress::Block(b) => b.view,
+        Progress::Timeouts(t) => View(u64_at(rec, t.place + 8)),
     }
 }
 
 // 9 of kind 7: its progress certificate isn't good, or isn't of the view before.
-fn progress_bad(rec: &[u8], progress: Progress, settings: Settings, v: u64) -> bool
+fn progress_bad(rec: &[u8], progress: Progress, settings: Settings, v: View) -> bool
     requires { ⌜ Within (now rec) progress ⌝ }
-    ensures { λ r. ⌜ r ≡ not (progressGood settings (progressMeans (now (rec .entry)) progress) && eqb (suc (viewOfProgress (progressMeans (now (rec .entry)) progress))) v) ⌝ }
+    ensures { λ r. ⌜ r ≡ not (progressGood settings (progressMeans (now (rec .entry)) progress) && eqb (suc (viewOfProgress (progressMeans (now (rec .entry)) progress))) (v .0)) ⌝ }
 {
     if !progress_good(rec, progress, settings) {
         return true;
     }
-    if v == 0 {
+    if v.0 == 0 {
         return true;
     }
-    progress_view(rec, progress) != v - 1
+    progress_view(rec, progress).0 != v.0 - 1
 }
 
 // 10 and 11 of kind 7, by the high vote.
-fn voted(c: Counters, v: u64, name: [u8; 32]) -> u64
-    ensures { λ r. ⌜ r ≡ firstOf (votedRules (lent c [] []) v name) ⌝ }
+fn voted(c: Counters, v: View, name: [u8; 32]) -> u64
+    ensures { λ r. ⌜ r ≡ firstOf (votedRules (lent c [] []) (v .0) name) ⌝ }
 {
     let high = c.high;
     let given = high.name;
-    if high.view.0 != v {
+    if high.view.0 != v.0 {
         return 0;
     }
     if same(given, name) {
@@ -276,17 +277,17 @@ fn proposal_early(c: Counters, mem: &[u8], rec: &[u8]) -> u64
     requires { ⌜ (16 ≤ length (now mem)) × ((96 ≤ length (now rec)) × ((certificateLength (progressOf (now rec)) ≡ false) × (certificateKindBad (progressOf (now rec)) ≡ false))) ⌝ }
     ensures { λ r. ⌜ r ≡ firstOf (proposalRules (lent c (now (mem .entry)) []) (senderOf (now (rec .entry))) (viewOf (now (rec .entry))) (nameOf (now (rec .entry))) (certificateOf (progressOf (now (rec .entry))))) ⌝ }
 {
-    let v = u64_at(rec, 8);
+    let v = View(u64_at(rec, 8));
     if not_leader(mem, u16_at(rec, 6) as u64, v) {
         return 6;
     }
-    if below_view(c.view.0, v) {
+    if below_view(c.view, v) {
         return 7;
     }
-    if View::LAST <= v {
+    if View::LAST.0 <= v.0 {
         return 8;
     }
-    let inner = progress(rec, 88);
+    let inner = progress(rec, length::PROPOSAL_HEAD);
     if progress_bad(rec, inner, settings(mem), v) {
         return 9;
     }
@@ -333,7 +334,7 @@ fn not_in_turn(c: Counters, mem: &[u8]) -> bool
     requires { ⌜ (16 ≤ length (now mem)) × (0 < c .view .0) ⌝ }
     ensures { λ r. ⌜ r ≡ (not (eqb (leaderOf (settingsOf (now (mem .entry))) (c .view .0)) (ownOf (now (mem .entry)))) || (leb (c .view .0) (c .timed .0) || (eqb (c .high .view .0) (c .view .0) || leb lastView (c .view .0)))) ⌝ }
 {
-    if leader(settings(mem), c.view.0) != own(mem) as u64 {
+    if leader(settings(mem), c.view) != own(mem) as u64 {
         return true;
     }
     if c.view.0 <= c.timed.0 {
@@ -343,7 +344,7 @@ fn not_in_turn(c: Counters, mem: &[u8]) -> bool
     if high.view.0 == c.view.0 {
         return true;
     }
-    View::LAST <= c.view.0
+    View::LAST.0 <= c.view.0
 }
 
 // Propose: 15, then 5.

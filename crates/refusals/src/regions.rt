@@ -1,12 +1,15 @@
 // The place "regions": lengths, and the rules that memory and counters keep.
+use blocks::STORE_LENGTH;
 use codec::num::u16_at;
 use counters::Counters;
+use memory::ENTRY_PLACE;
 use memory::block_count;
 use memory::entry_length;
 use memory::own;
 use memory::settings;
 use settings::Settings;
 use settings::View;
+use wire::length;
 ghost use mathlib.Core.Path.{_≡_};
 ghost use mathlib.Core.Bool.{_&&_};
 ghost use mathlib.Core.List.{List, []};
@@ -21,6 +24,9 @@ ghost use Rattle.protocol.specs.Refusals.{regular, regionRules};
 ghost use Rattle.refusals.specs.Number.{firstOf};
 ghost use Rattle.refusals.specs.Early.{lent, certificateSized};
 
+// The output region has at least so many bytes, and no call writes more.
+pub const OUTPUT_LENGTH: usize = 32768;
+
 // A progress certificate that has its length.
 fn certificate_sized(rec: &[u8], n: u64) -> bool
     requires { ⌜ 24 ≤ length (now rec) ⌝ }
@@ -28,7 +34,7 @@ fn certificate_sized(rec: &[u8], n: u64) -> bool
 {
     let kind = u16_at(rec, 4);
     if kind == 3 {
-        return rec.len() == 56;
+        return rec.len() == length::BLOCK_CERTIFICATE;
     }
     if kind != 6 {
         return false;
@@ -37,7 +43,7 @@ fn certificate_sized(rec: &[u8], n: u64) -> bool
     if n < count as u64 {
         return false;
     }
-    rec.len() == 24 + 112 * count
+    rec.len() == length::TIMEOUTS_HEAD + length::TIMEOUT * count
 }
 
 // The entry certificate has its length. No certificate has less than 24 bytes, or more than all replicas' timeouts.
@@ -46,13 +52,13 @@ fn entry_regular(mem: &[u8], n: u64) -> bool
     ensures { λ r. ⌜ r ≡ certificateSized n (entryOf (now (mem .entry))) ⌝ }
 {
     let len = entry_length(mem);
-    if len < 24 {
+    if len < length::TIMEOUTS_HEAD {
         return false;
     }
-    if 3608 < len {
+    if length::LONGEST_CERTIFICATE < len {
         return false;
     }
-    certificate_sized(&mem[16..16 + len], n)
+    certificate_sized(&mem[ENTRY_PLACE..ENTRY_PLACE + len], n)
 }
 
 // Settings that opening takes, and an own number of the cluster.
@@ -81,10 +87,10 @@ fn regular(c: Counters, mem: &[u8]) -> bool
     if c.view.0 < 1 {
         return false;
     }
-    if View::LAST < c.view.0 {
+    if View::LAST.0 < c.view.0 {
         return false;
     }
-    if 128 < block_count(mem) {
+    if STORE_LENGTH < block_count(mem) {
         return false;
     }
     entry_regular(mem, s.n())
@@ -94,13 +100,13 @@ fn regular(c: Counters, mem: &[u8]) -> bool
 pub fn regions(c: Counters, mem: &[u8], entries: usize, room: usize) -> u64
     ensures { λ r. ⌜ ((s : List Block) → length s ≡ entries → r ≡ firstOf (regionRules (lent c (now (mem .entry)) s) room)) ⌝ }
 {
-    if mem.len() < 34504 {
+    if mem.len() < memory::LENGTH {
         return 2;
     }
-    if entries < 128 {
+    if entries < STORE_LENGTH {
         return 2;
     }
-    if room < 32768 {
+    if room < OUTPUT_LENGTH {
         return 2;
     }
     if regular(c, mem) {

@@ -15,13 +15,13 @@ use Rattle.blocks.specs.Store.{held, descends}
 use Rattle.memory.specs.declared.decided.Choice.{Choice}
 use Rattle.memory.specs.Layout.{settingsOf, blockCountOf}
 use Rattle.memory.specs.Window.{lowest, highest}
-use Rattle.memory.specs.Decided.{noChoice, nextDecided, tooFew, alone, likely, survey}
+use Rattle.memory.specs.Decided.{noChoice, nextDecided, tooFew, alone, likely, findDecided}
 use Rattle.memory.proofs.Passing.{few-none}
 use Rattle.memory.proofs.Sole.{sole-last}
 use Rattle.counters.specs.declared.Counters.{Counters}
-use Rattle.protocol.specs.Work.{Work, n, viewNow, tip, blocks, heldBlock}
+use Rattle.protocol.specs.Work.{Work, view, n, viewNow, tip, blocks, heldBlock}
 use Rattle.protocol.specs.Rules.{tries, enoughToRelease, releasable, Pair, lowestPair, ballotViews}
-use Rattle.release.specs.Search.{standing, seen, target, pairFrom, targetOf, targetFrom, lowestTarget, firstPlace, viewsAfter, questOf, lookOf, goesTo, endsWith, nextView, nextName, stepOf, atNextView, passing, passed, stepsLeft}
+use Rattle.release.specs.Search.{standing, seen, target, pairFrom, targetOf, targetFrom, lowestTarget, firstPlace, viewsAfter, quorumsOf, lookOf, goesTo, endsWith, nextView, nextName, stepOf, atNextView, passing, passed, stepsLeft}
 use Rattle.release.specs.declared.Place.{Place}
 use Rattle.release.specs.declared.Look.{Look}
 use Rattle.release.specs.declared.Step.{Step}
@@ -39,10 +39,10 @@ pub record Follows (p : Place) (W : Work) (s : Step) : Type 0 where
   pub on : s .goes ≡ true → targetFrom p W ≡ targetFrom (s .place) W
   pub off : s .goes ≡ false → targetFrom p W ≡ s .target
   pub less : s .goes ≡ true → n W ≤ largest → stepsLeft (s .place) < stepsLeft p
-  pub within : s .goes ≡ true → s .place .view + s .place .views ≤ p .view + p .views
+  pub within : s .goes ≡ true → s .place .view .0 + s .place .views ≤ p .view .0 + p .views
 
 abbrev placed : ℕ → Choice → ℕ → ℕ → Place
-placed v a k j = record { view = v; some = a .some; name = a .name; views = k; tries = j }
+placed v a k j = record { view = view v; some = a .some; name = a .name; views = k; tries = j }
 
 -- ---- no name of the view is left
 next-pair : (v k : ℕ) (W : Work) → lowestPair (suc v) (suc k) W ≡ pairFrom (placed (v + 1) noChoice (suc k - 1) (tries W)) W
@@ -107,8 +107,8 @@ module _ (v : ℕ) (a : Choice) (W : Work) (small : n W ≤ largest) where
 -- ---- ONE STEP
 pub follows : (p : Place) (W : Work) → n W ≤ largest
     → let l = lookOf (W .memory) p in let b = heldBlock W (l .name) in Follows p W (stepOf p l b (descends (tip W) (blocks W) (b .block)))
-unfolding lookOf survey stepOf nextName
-follows p W small = found (p .view) (record { some = p .some; name = p .name }) W small (p .views) (p .tries) _ _ _ refl refl refl
+unfolding lookOf findDecided stepOf nextName
+follows p W small = found (p .view .0) (record { some = p .some; name = p .name }) W small (p .views) (p .tries) _ _ _ refl refl refl
 
 -- where no name was found, nothing else matters
 step-none : (p : Place) (l : Look) (b c : Found) (d e : Bool) → l .some ≡ false → stepOf p l b d ≡ stepOf p l c e
@@ -156,15 +156,15 @@ stepped tip m entries p l b below down s small e₀ e₁ e₂ e₃ e₄ = go (l 
 pub record Passes (p : Place) (W : Work) (q : Place) : Type 0 where
   pub same : targetFrom q W ≡ targetFrom p W
   pub steps : stepsLeft q ≤ stepsLeft p
-  pub within : q .view + q .views ≡ p .view + p .views
+  pub within : q .view .0 + q .views ≡ p .view .0 + p .views
 
 module _ (W : Work) (small : n W ≤ largest) where
-  one-passed : (p : Place) → tooFew (W .memory) (questOf (W .memory) (p .view)) ≡ true → 1 ≤ p .views → Passes p W (atNextView (W .memory) p)
+  one-passed : (p : Place) → tooFew (W .memory) (quorumsOf (W .memory) (p .view .0)) ≡ true → 1 ≤ p .views → Passes p W (atNextView (W .memory) p)
   unfolding targetFrom stepsLeft nextView
   one-passed p few more =
       let a : Choice = record { some = p .some; name = p .name } in
-      let none : nextDecided (W .memory) (enoughToRelease (p .view) W) a ≡ noChoice = few-none (W .memory) (questOf (W .memory) (p .view)) small few a in
-      let f = view-ends (p .view) a (p .views) (p .tries) W (none-found (p .view) a W (p .views) (p .tries) (ap (λ (z : Choice). z .some) none)) in
+      let none : nextDecided (W .memory) (enoughToRelease (p .view .0) W) a ≡ noChoice = few-none (W .memory) (quorumsOf (W .memory) (p .view .0)) small few a in
+      let f = view-ends (p .view .0) a (p .views) (p .tries) W (none-found (p .view .0) a W (p .views) (p .tries) (ap (λ (z : Choice). z .some) none)) in
       let goes : nextView p (tries W) ≡ goesTo (atNextView (W .memory) p) = rw (lt-ltb 0 (p .views) more) refl in
       record {
         same = sym (f .on (ap (λ (z : Step). z .goes) goes) ∙ ap (λ (z : Step). targetOf (pairFrom (z .place) W) W) goes);
@@ -175,9 +175,9 @@ module _ (W : Work) (small : n W ≤ largest) where
   pub views-passed : (k : ℕ) (p : Place) → k ≤ p .views → Passes p W (passing k (W .memory) p)
   unfolding passing
   views-passed zero p h = record { same = refl; steps = omega arith; within = refl }
-  views-passed (suc k) p h = go (tooFew (W .memory) (questOf (W .memory) (p .view))) refl (views-passed k (atNextView (W .memory) p) (omega (arith, h)))
+  views-passed (suc k) p h = go (tooFew (W .memory) (quorumsOf (W .memory) (p .view .0))) refl (views-passed k (atNextView (W .memory) p) (omega (arith, h)))
     where
-      go : (t : Bool) → tooFew (W .memory) (questOf (W .memory) (p .view)) ≡ t → Passes (atNextView (W .memory) p) W (passing k (W .memory) (atNextView (W .memory) p))
+      go : (t : Bool) → tooFew (W .memory) (quorumsOf (W .memory) (p .view .0)) ≡ t → Passes (atNextView (W .memory) p) W (passing k (W .memory) (atNextView (W .memory) p))
           → Passes p W (cond t (passing k (W .memory) (atNextView (W .memory) p)) p)
       go false e r = record { same = refl; steps = omega arith; within = refl }
       go true e r =
@@ -190,7 +190,7 @@ unfolding passed
 passes tip m entries p q small e = rw e (views-passed (seen tip m entries) small (p .views) p (omega arith))
 
 -- the loop: what is left to pass stays the same
-pub pass-on : (m : List ℕ) (p : Place) → 1 ≤ p .views → tooFew m (questOf m (p .view)) ≡ true → passed m (atNextView m p) ≡ passed m p
+pub pass-on : (m : List ℕ) (p : Place) → 1 ≤ p .views → tooFew m (quorumsOf m (p .view .0)) ≡ true → passed m (atNextView m p) ≡ passed m p
 unfolding passed passing
 pass-on m p h few = go (p .views) refl h
   where
@@ -198,7 +198,7 @@ pass-on m p h few = go (p .views) refl h
     go zero e l = absurd (omega (arith, l))
     go (suc k) e l = let f : suc k - 1 ≡ k = omega arith in rw (e, f, few) refl
 
-pub pass-stop : (m : List ℕ) (p : Place) → tooFew m (questOf m (p .view)) ≡ false → p ≡ passed m p
+pub pass-stop : (m : List ℕ) (p : Place) → tooFew m (quorumsOf m (p .view .0)) ≡ false → p ≡ passed m p
 unfolding passed passing
 pass-stop m p few = go (p .views)
   where
@@ -215,19 +215,19 @@ module _ (m : List ℕ) (first : ℕ) where
   pub after-most : (k : ℕ) → viewsAfter m first k ≤ k
   unfolding viewsAfter
   after-most zero = omega arith
-  after-most (suc k) = go (tooFew m (questOf m (first + suc k))) (after-most k)
+  after-most (suc k) = go (tooFew m (quorumsOf m (first + suc k))) (after-most k)
     where
       go : (t : Bool) → viewsAfter m first k ≤ k → cond t (viewsAfter m first k) (suc k) ≤ suc k
       go true h = omega (arith, h)
       go false h = omega arith
 
   -- the loop: what is left to leave out stays the same
-  pub after-on : (k : ℕ) → 1 ≤ k → tooFew m (questOf m (first + k)) ≡ true → viewsAfter m first k ≡ viewsAfter m first (k - 1)
+  pub after-on : (k : ℕ) → 1 ≤ k → tooFew m (quorumsOf m (first + k)) ≡ true → viewsAfter m first k ≡ viewsAfter m first (k - 1)
   unfolding viewsAfter
   after-on zero h few = absurd (omega (arith, h))
   after-on (suc k) h few = let e : suc k - 1 ≡ k = omega arith in rw (few, e) refl
 
-  pub after-stop : (k : ℕ) → 1 ≤ k → tooFew m (questOf m (first + k)) ≡ false → k ≡ viewsAfter m first k
+  pub after-stop : (k : ℕ) → 1 ≤ k → tooFew m (quorumsOf m (first + k)) ≡ false → k ≡ viewsAfter m first k
   unfolding viewsAfter
   after-stop zero h some = absurd (omega (arith, h))
   after-stop (suc k) h some = rw some refl
@@ -237,7 +237,7 @@ module _ (m : List ℕ) (first : ℕ) where
   after-end zero h = refl
   after-end (suc k) h = absurd (omega (arith, h))
 
-pub first-within : (v : ℕ) (m : List ℕ) → v ≤ lastView → firstPlace v m .view + firstPlace v m .views < 2 ^ 63
+pub first-within : (v : ℕ) (m : List ℕ) → v ≤ lastView → firstPlace v m .view .0 + firstPlace v m .views < 2 ^ 63
 unfolding firstPlace
 first-within v m h = omega (arith, after-most m (lowest v) (highest v - lowest v))
 
@@ -245,14 +245,14 @@ module _ (W : Work) (small : n W ≤ largest) where
   abbrev lowestOf : ℕ → ℕ → Target
   lowestOf v k = targetOf (lowestPair v k W) W
 
-  none-in : (v : ℕ) → tooFew (W .memory) (questOf (W .memory) v) ≡ true → (k : ℕ) → lowestPair v (suc k) W ≡ lowestPair (suc v) k W
+  none-in : (v : ℕ) → tooFew (W .memory) (quorumsOf (W .memory) v) ≡ true → (k : ℕ) → lowestPair v (suc k) W ≡ lowestPair (suc v) k W
   unfolding pairFrom lowestPair
   none-in v few k =
-      let none : nextDecided (W .memory) (enoughToRelease v W) noChoice ≡ noChoice = few-none (W .memory) (questOf (W .memory) v) small few noChoice in
+      let none : nextDecided (W .memory) (enoughToRelease v W) noChoice ≡ noChoice = few-none (W .memory) (quorumsOf (W .memory) v) small few noChoice in
       none-found v noChoice W k (tries W) (ap (λ (z : Choice). z .some) none)
 
   -- a last view that decides nothing is left out
-  last-left : (k v : ℕ) → tooFew (W .memory) (questOf (W .memory) (v + k)) ≡ true → lowestOf v (suc k) ≡ lowestOf v k
+  last-left : (k v : ℕ) → tooFew (W .memory) (quorumsOf (W .memory) (v + k)) ≡ true → lowestOf v (suc k) ≡ lowestOf v k
   unfolding targetOf lowestPair
   last-left zero v few = ap (λ (z : Pair). targetOf z W) (none-in v (let e : v + 0 ≡ v = omega arith in rw e at few) 0)
   last-left (suc k) v few = go (releasable v W (tries W) noChoice .some) (last-left k (suc v) (let e : v + suc k ≡ suc v + k = omega arith in rw e at few))
@@ -268,9 +268,9 @@ module _ (W : Work) (small : n W ≤ largest) where
   trimmed : (v k : ℕ) → lowestOf v (suc (viewsAfter (W .memory) v k)) ≡ lowestOf v (suc k)
   unfolding viewsAfter
   trimmed v zero = refl
-  trimmed v (suc k) = go (tooFew (W .memory) (questOf (W .memory) (v + suc k))) refl (trimmed v k)
+  trimmed v (suc k) = go (tooFew (W .memory) (quorumsOf (W .memory) (v + suc k))) refl (trimmed v k)
     where
-      go : (t : Bool) → tooFew (W .memory) (questOf (W .memory) (v + suc k)) ≡ t → lowestOf v (suc (viewsAfter (W .memory) v k)) ≡ lowestOf v (suc k)
+      go : (t : Bool) → tooFew (W .memory) (quorumsOf (W .memory) (v + suc k)) ≡ t → lowestOf v (suc (viewsAfter (W .memory) v k)) ≡ lowestOf v (suc k)
           → lowestOf v (suc (cond t (viewsAfter (W .memory) v k) (suc k))) ≡ lowestOf v (suc (suc k))
       go true few e = e ∙ sym (last-left (suc k) v few)
       go false some e = refl
@@ -301,7 +301,7 @@ pub from-seen : (p : Place) (c : Counters) (m : List ℕ) (entries : List Block)
 unfolding targetFrom pairFrom targetOf
 from-seen p c m entries =
     let W = standing c m entries in
-    rw (releasable-bare (p .view) W (p .tries) (record { some = p .some; name = p .name }), pair-bare (suc (p .view)) (p .views) W) refl
+    rw (releasable-bare (p .view .0) W (p .tries) (record { some = p .some; name = p .name }), pair-bare (suc (p .view .0)) (p .views) W) refl
 
 -- and so what was written is no matter
 pub target-standing : (W : Work) → lowestTarget W ≡ lowestTarget (standing (W .counters) (W .memory) (W .store))

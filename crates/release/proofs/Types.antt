@@ -126,8 +126,8 @@ Placeᵀ = Place′.mir
 abbrev pub Placeᴰ : Data Placeᴿ
 Placeᴰ = struct Placeᵐ.the-type Place′.the-laws Place′.the-plain Place′.lowers
 
-pub Place-view : (x : Place) → At Placeᴰ x → At word (x .view)
-Place-view x is = LL.owed Placeᵐ.the-type Place′.the-laws x _ is .0
+pub Place-view : (x : Place) → At Placeᴰ x → At Viewᴰ (x .view)
+Place-view x is = again Viewᴰ (x .view) _ (LL.owed Placeᵐ.the-type Place′.the-laws x _ is .0)
 
 pub Place-some : (x : Place) → At Placeᴰ x → At flag (x .some)
 Place-some x is = LL.owed Placeᵐ.the-type Place′.the-laws x _ is .1 .0

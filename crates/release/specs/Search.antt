@@ -10,10 +10,10 @@ use Rattle.blocks.specs.declared.Block.{Block}
 use Rattle.blocks.specs.declared.Found.{Found}
 use Rattle.blocks.specs.Store.{genesis}
 use Rattle.memory.specs.declared.decided.Choice.{Choice}
-use Rattle.memory.specs.declared.decided.Quest.{Quest}
+use Rattle.memory.specs.declared.decided.Quorums.{Quorums}
 use Rattle.memory.specs.Layout.{settingsOf, blockCountOf}
 use Rattle.memory.specs.Window.{lowest, highest}
-use Rattle.memory.specs.Decided.{survey, tooFew}
+use Rattle.memory.specs.Decided.{findDecided, tooFew}
 use Rattle.counters.specs.declared.Counters.{Counters}
 use Rattle.counters.specs.declared.Signed.{Signed}
 use Rattle.protocol.specs.Work.{Work, view, viewNow, heldBlock}
@@ -50,8 +50,8 @@ afterOf p = record { some = p .some; name = p .name }
 -- ---- WHAT IS LEFT TO SEARCH: the other names of the view, and the views after it
 unfoldable pub pairFrom : Place → Work → Pair
 pairFrom p W =
-    let x = releasable (p .view) W (p .tries) (afterOf p) in
-    cond (x .some) (record { at = p .view; name = x }) (lowestPair (suc (p .view)) (p .views) W)
+    let x = releasable (p .view .0) W (p .tries) (afterOf p) in
+    cond (x .some) (record { at = p .view .0; name = x }) (lowestPair (suc (p .view .0)) (p .views) W)
 
 -- the block of a pair
 unfoldable pub targetOf : Pair → Work → Target
@@ -70,19 +70,19 @@ abbrev pub triesOf : List ℕ → ℕ
 triesOf m = replicas (settingsOf m) + replicas (settingsOf m) + 1
 
 -- `enoughToRelease` of protocol
-abbrev pub questOf : List ℕ → ℕ → Quest
-questOf m v =
-    record { view = v; n = replicas (settingsOf m); votes = fastQuorum (settingsOf m); commits = slowQuorum (settingsOf m) }
+abbrev pub quorumsOf : List ℕ → ℕ → Quorums
+quorumsOf m v =
+    record { view = view v; n = replicas (settingsOf m); votes = fastQuorum (settingsOf m); commits = slowQuorum (settingsOf m) }
 
 -- of k views after the first, those up to the last one with enough votes or commits
 unfoldable pub viewsAfter : List ℕ → ℕ → ℕ → ℕ
 viewsAfter m first zero = zero
-viewsAfter m first (suc k) = cond (tooFew m (questOf m (first + suc k))) (viewsAfter m first k) (suc k)
+viewsAfter m first (suc k) = cond (tooFew m (quorumsOf m (first + suc k))) (viewsAfter m first k) (suc k)
 
 unfoldable pub firstPlace : ℕ → List ℕ → Place
 firstPlace v m =
     record {
-      view = lowest v;
+      view = view (lowest v);
       some = false;
       name = zeroName;
       views = viewsAfter m (lowest v) (highest v - lowest v);
@@ -91,7 +91,7 @@ firstPlace v m =
 
 unfoldable pub lookOf : List ℕ → Place → Look
 lookOf m p =
-    let x = survey m (questOf m (p .view)) (afterOf p) in
+    let x = findDecided m (quorumsOf m (p .view .0)) (afterOf p) in
     record { some = x .some; name = x .name; count = cond (x .some) (blockCountOf m) 0; tries = triesOf m; only = x .only }
 
 abbrev pub goesTo : Place → Step
@@ -103,7 +103,7 @@ endsWith p t = record { goes = false; place = p; target = t }
 unfoldable pub nextView : Place → ℕ → Step
 nextView p tries =
     cond (ltb 0 (p .views))
-    (goesTo (record { view = p .view + 1; some = false; name = zeroName; views = p .views - 1; tries = tries }))
+    (goesTo (record { view = view (p .view .0 + 1); some = false; name = zeroName; views = p .views - 1; tries = tries }))
     (endsWith p noTarget)
 
 -- another name of the view, unless it decides no other
@@ -117,16 +117,16 @@ nextName p l =
 unfoldable pub stepOf : Place → Look → Found → Bool → Step
 stepOf p l b down =
     cond (l .some && ltb 0 (p .tries))
-    (cond (b .is && down) (endsWith p (target (p .view) (b .block))) (nextName p l))
+    (cond (b .is && down) (endsWith p (target (p .view .0) (b .block))) (nextName p l))
     (nextView p (l .tries))
 
 -- ---- views with too few votes and commits are passed over
 abbrev pub atNextView : List ℕ → Place → Place
-atNextView m p = record { view = p .view + 1; some = false; name = zeroName; views = p .views - 1; tries = triesOf m }
+atNextView m p = record { view = view (p .view .0 + 1); some = false; name = zeroName; views = p .views - 1; tries = triesOf m }
 
 unfoldable pub passing : ℕ → List ℕ → Place → Place
 passing zero m p = p
-passing (suc k) m p = cond (tooFew m (questOf m (p .view))) (passing k m (atNextView m p)) p
+passing (suc k) m p = cond (tooFew m (quorumsOf m (p .view .0))) (passing k m (atNextView m p)) p
 
 -- at most the views that come after it
 unfoldable pub passed : List ℕ → Place → Place

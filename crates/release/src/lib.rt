@@ -10,8 +10,8 @@ use codec::num::u64_at;
 use counters::releasing;
 use memory::block_count;
 use memory::decided::Choice;
-use memory::decided::Quest;
-use memory::decided::survey;
+use memory::decided::Quorums;
+use memory::decided::find_decided;
 use memory::decided::too_few;
 use memory::own;
 use memory::put_block_count;
@@ -20,6 +20,7 @@ use memory::window::highest;
 use memory::window::lowest;
 use settings::Height;
 use settings::View;
+use wire::length;
 ghost use mathlib.Core.Path.{_≡_};
 ghost use mathlib.Core.Bool.{true, cond};
 ghost use Prim.Native.Nat.{_+_, _*_, _^_, _<_, _≤_};
@@ -32,11 +33,11 @@ ghost use Rattle.protocol.specs.Refusals.{storeLength, regular};
 ghost use Rattle.protocol.specs.Rules.{again};
 ghost use Rattle.act.specs.Draft.{workOf, left, leftBy, Ready};
 ghost use Rattle.release.specs.Released.{Releases, Released, ReleasedIf, firstTurn, allowedOf, nextTurn, draftAt, Turned, Ends, lastReleased, finishedOf};
-ghost use Rattle.release.specs.Search.{standing, knownBy, seen, noTarget, firstPlace, lookOf, nextView, nextName, stepOf, viewsAfter, targetFrom, lowestTarget, questOf, atNextView, passed};
+ghost use Rattle.release.specs.Search.{standing, knownBy, seen, noTarget, firstPlace, lookOf, nextView, nextName, stepOf, viewsAfter, targetFrom, lowestTarget, quorumsOf, atNextView, passed};
 
 // Where the search stands: at a view, above a name or at its first; how many views come after it, and how many of its names are still tried.
 struct Place {
-    view: u64,
+    view: View,
     some: bool,
     name: [u8; 32],
     views: usize,
@@ -83,12 +84,12 @@ fn no_target() -> Target
 }
 
 // So few votes and commits are kept for the view that it decides nothing.
-fn decides_nothing(mem: &[u8], view: u64) -> bool
+fn decides_nothing(mem: &[u8], view: View) -> bool
     requires { ⌜ (memoryLength ≤ length (now mem)) × (replicas (settingsOf (now mem)) ≤ largest) ⌝ }
-    ensures { λ r. ⌜ r ≡ tooFew (now (mem .entry)) (questOf (now (mem .entry)) view) ⌝ }
+    ensures { λ r. ⌜ r ≡ tooFew (now (mem .entry)) (quorumsOf (now (mem .entry)) (view .0)) ⌝ }
 {
     let s = settings(mem);
-    let q = Quest {
+    let q = Quorums {
         view,
         n: s.n() as usize,
         votes: s.fast_quorum(),
@@ -98,13 +99,13 @@ fn decides_nothing(mem: &[u8], view: u64) -> bool
 }
 
 // How many views after the first one are searched, of so many at most: the last ones are left out where they decide nothing.
-fn views_after(mem: &[u8], first: u64, most: u64) -> u64
-    requires { ⌜ (memoryLength ≤ length (now mem)) × ((replicas (settingsOf (now mem)) ≤ largest) × (first + most < 2 ^ 63)) ⌝ }
-    ensures { λ r. ⌜ r ≡ viewsAfter (now (mem .entry)) first most ⌝ }
+fn views_after(mem: &[u8], first: View, most: u64) -> u64
+    requires { ⌜ (memoryLength ≤ length (now mem)) × ((replicas (settingsOf (now mem)) ≤ largest) × (first .0 + most < 2 ^ 63)) ⌝ }
+    ensures { λ r. ⌜ r ≡ viewsAfter (now (mem .entry)) (first .0) most ⌝ }
 {
     let mut k = most;
     while 0 < k {
-        if !decides_nothing(mem, first + k) {
+        if !decides_nothing(mem, View(first.0 + k)) {
             return k;
         }
         k -= 1;
@@ -116,14 +117,13 @@ fn first_place(mem: &[u8], view: View) -> Place
     requires { ⌜ (memoryLength ≤ length (now mem)) × ((replicas (settingsOf (now mem)) ≤ largest) × ((1 ≤ view .0) × (view .0 ≤ lastView))) ⌝ }
     ensures { λ r. ⌜ r ≡ firstPlace (view .0) (now (mem .entry)) ⌝ }
 {
-    let v = view.0;
     let n = settings(mem).n() as usize;
-    let low = lowest(v);
+    let low = lowest(view);
     Place {
         view: low,
         some: false,
         name: [0u8; 32],
-        views: views_after(mem, low, highest(v) - low) as usize,
+        views: views_after(mem, low, highest(view).0 - low.0) as usize,
         tries: n + n + 1,
     }
 }
@@ -145,11 +145,12 @@ fn look_at(mem: &[u8], p: Place) -> Look
 {
     let s = settings(mem);
     let n = s.n() as usize;
+    let view = p.view;
     let name = p.name;
-    let x = survey(
+    let x = find_decided(
         mem,
-        Quest {
-            view: p.view,
+        Quorums {
+            view,
             n,
             votes: s.fast_quorum(),
             commits: s.slow_quorum(),
@@ -168,12 +169,12 @@ fn look_at(mem: &[u8], p: Place) -> Look
 
 // The start of the view after a place's.
 fn at_next_view(mem: &[u8], p: Place) -> Place
-    requires { ⌜ (memoryLength ≤ length (now mem)) × ((p .view + 1 < 2 ^ 64) × (1 ≤ p .views)) ⌝ }
+    requires { ⌜ (memoryLength ≤ length (now mem)) × ((p .view .0 + 1 < 2 ^ 64) × (1 ≤ p .views)) ⌝ }
     ensures { λ r. ⌜ r ≡ atNextView (now (mem .entry)) p ⌝ }
 {
     let n = settings(mem).n() as usize;
     Place {
-        view: p.view + 1,
+        view: View(p.view.0 + 1),
         some: false,
         name: [0u8; 32],
         views: p.views - 1,
@@ -183,7 +184,7 @@ fn at_next_view(mem: &[u8], p: Place) -> Place
 
 // Views that decide nothing are passed over, so that the store is not asked for them.
 fn pass_views(mem: &[u8], first: Place) -> Place
-    requires { ⌜ (memoryLength ≤ length (now mem)) × ((replicas (settingsOf (now mem)) ≤ largest) × (first .view + first .views < 2 ^ 63)) ⌝ }
+    requires { ⌜ (memoryLength ≤ length (now mem)) × ((replicas (settingsOf (now mem)) ≤ largest) × (first .view .0 + first .views < 2 ^ 63)) ⌝ }
     ensures { λ r. ⌜ r ≡ passed (now (mem .entry)) first ⌝ }
 {
     let mut p = first;
@@ -198,13 +199,13 @@ fn pass_views(mem: &[u8], first: Place) -> Place
 
 // No name of the view is left.
 fn next_view(p: Place, tries: usize) -> Step
-    requires { ⌜ p .view + 1 < 2 ^ 64 ⌝ }
+    requires { ⌜ p .view .0 + 1 < 2 ^ 64 ⌝ }
     ensures { λ r. ⌜ r ≡ nextView p tries ⌝ }
 {
     let target = no_target();
     if 0 < p.views {
         let place = Place {
-            view: p.view + 1,
+            view: View(p.view.0 + 1),
             some: false,
             name: [0u8; 32],
             views: p.views - 1,
@@ -225,16 +226,17 @@ fn next_view(p: Place, tries: usize) -> Step
 
 // The name that was found is not to be released. Where the view decides no other, its names are done.
 fn next_name(p: Place, l: Look) -> Step
-    requires { ⌜ (1 ≤ p .tries) × (p .view + 1 < 2 ^ 64) ⌝ }
+    requires { ⌜ (1 ≤ p .tries) × (p .view .0 + 1 < 2 ^ 64) ⌝ }
     ensures { λ r. ⌜ r ≡ nextName p l ⌝ }
 {
     if l.only {
         return next_view(p, l.tries);
     }
+    let view = p.view;
     let name = l.name;
     let some = l.some;
     let place = Place {
-        view: p.view,
+        view,
         some,
         name,
         views: p.views,
@@ -260,7 +262,7 @@ fn entries_below(b: Found, count: usize) -> usize
 
 // Every decision of the search, by value. b is what is held of the name that was found, and `down` whether it leads to the tip.
 fn next_step(p: Place, l: Look, b: Found, down: bool) -> Step
-    requires { ⌜ p .view + 1 < 2 ^ 64 ⌝ }
+    requires { ⌜ p .view .0 + 1 < 2 ^ 64 ⌝ }
     ensures { λ r. ⌜ r ≡ stepOf p l b down ⌝ }
 {
     if !l.some {
@@ -275,10 +277,11 @@ fn next_step(p: Place, l: Look, b: Found, down: bool) -> Step
     if !down {
         return next_name(p, l);
     }
+    let view = p.view;
     let block = b.block;
     let target = Target {
         is: true,
-        view: View(p.view),
+        view,
         block,
     };
     Step {
@@ -290,7 +293,7 @@ fn next_step(p: Place, l: Look, b: Found, down: bool) -> Step
 
 // The search from a place on. Each call is for a decided name or for a view, so that few stand on the stack.
 fn target_from(mem: &[u8], store: &[Block], tip: Block, p: Place) -> Target
-    requires { ⌜ (memoryLength ≤ length (now mem)) × ((replicas (settingsOf (now mem)) ≤ largest) × (p .view + p .views < 2 ^ 63)) ⌝ }
+    requires { ⌜ (memoryLength ≤ length (now mem)) × ((replicas (settingsOf (now mem)) ≤ largest) × (p .view .0 + p .views < 2 ^ 63)) ⌝ }
     ensures { λ r. ⌜ r ≡ targetFrom p (seen tip (now (mem .entry)) (now (store .entry))) ⌝ }
 {
     let q = pass_views(mem, p);
@@ -499,11 +502,11 @@ fn last_released(out: &[u8], from: usize, to: usize, tip: Block) -> Block
     if to <= from {
         return tip;
     }
-    let last = to - 56;
+    let last = to - length::RELEASE;
     let name = name_at(out, last + 16);
     let height = Height(u64_at(out, last + 48));
     if from < last {
-        let parent = name_at(out, last - 56 + 16);
+        let parent = name_at(out, last - length::RELEASE + 16);
         return Block {
             name,
             parent,

@@ -4,6 +4,7 @@
 // They are exported by their own names, hence the prefix: a library that exports `open` would take the place of the C library's.
 use act::Draft;
 use blocks::Block;
+use blocks::STORE_LENGTH;
 use blocks::fill;
 use blocks::held;
 use counters::Counters;
@@ -13,6 +14,7 @@ use perform::Done;
 use release::release_all;
 use settings::Admission;
 use settings::Settings;
+use settings::View;
 use settings::admit;
 ghost use mathlib.Core.Path.{_≡_};
 ghost use mathlib.Core.List.{List, []};
@@ -90,6 +92,13 @@ pub extern "C" fn hydrangea_record(
     answer(done.refusal, d.at)
 }
 
+// A host hands a view over as its number.
+fn view_of(number: u64) -> View
+    ensures { λ r. ⌜ r .0 ≡ number ⌝ }
+{
+    View(number)
+}
+
 // The timer of a view.
 #[no_mangle]
 pub extern "C" fn hydrangea_timer(
@@ -103,8 +112,9 @@ pub extern "C" fn hydrangea_timer(
         ≡ repliedBy (timerCall (lentTo (now (counters .entry)) (now (mem .entry)) (now (store .entry))) (now (out .entry)) view) ⌝ }
 {
     let c = *counters;
-    let number = judge::timer(c, mem, store.len(), out.len(), view);
-    let done = perform::timer(c, mem, out, number, view);
+    let of = view_of(view);
+    let number = judge::timer(c, mem, store.len(), out.len(), of);
+    let done = perform::timer(c, mem, out, number, of);
     let d = conclude(mem, store, out, done);
     *counters = d.counters;
     answer(done.refusal, d.at)
@@ -142,13 +152,13 @@ struct Opened {
 fn open_admitted(c: Counters, mem: &mut [u8], entries: usize, s: Settings, own: u16) -> Opened
     ensures { λ r. ⌜ ((l : List Block) → length l ≡ entries → openedOutcome r (now (mem .exit)) l ≡ admitted (lentTo c (now (mem .entry)) l) s own) ⌝ }
 {
-    if mem.len() < 34504 {
+    if mem.len() < memory::LENGTH {
         return Opened {
             refusal: 2,
             counters: c,
         };
     }
-    if entries < 128 {
+    if entries < STORE_LENGTH {
         return Opened {
             refusal: 2,
             counters: c,

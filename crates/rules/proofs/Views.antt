@@ -30,7 +30,7 @@ use Rattle.counters.specs.declared.Counters.{Counters}
 use Rattle.counters.specs.Counters.{locksOf, adopting, certificateOf as lockOf}
 use Rattle.memory.specs.Kept.{keptCount, tally}
 use Rattle.memory.specs.Formed.{formed}
-use Rattle.protocol.specs.Work.{sendTimeout}
+use Rattle.protocol.specs.Work.{view as viewAt, sendTimeout}
 use Rattle.protocol.specs.Refusals.{viewOfProgress}
 use Rattle.protocol.specs.Events.{progress}
 use Rattle.protocol.specs.Rules.{ruleA, ruleB, ruleC, formedBlock}
@@ -236,8 +236,8 @@ C-below d m o v l h = does-stay (ruleC v) d m o l (λ s. rw (lower-view v (nextD
     go false s = refl
 
 pub voted-is : (m : List ℕ) (v : ℕ) {s : Settings} {n z : ℕ} {x : Choice} → s ≡ settingsOf m → n ≡ replicas s → z ≡ blockQuorum s
-    → x ≡ nextDecided m (record { view = v; n = n; votes = z; commits = n + 1 }) noChoice → x ≡ nextDecided m (votesWanted m v) noChoice
-voted-is m v {n = n} {z = z} e q b x = x ∙ ap (λ (k : ℕ). nextDecided m (record { view = v; n = n; votes = z; commits = k }) noChoice) (add-one n) ∙ rw (q, b, e)
+    → x ≡ nextDecided m (record { view = viewAt v; n = n; votes = z; commits = n + 1 }) noChoice → x ≡ nextDecided m (votesWanted m v) noChoice
+voted-is m v {n = n} {z = z} e q b x = x ∙ ap (λ (k : ℕ). nextDecided m (record { view = viewAt v; n = n; votes = z; commits = k }) noChoice) (add-one n) ∙ rw (q, b, e)
 
 -- a quorum is never empty
 pub some-quorum : (s : Settings) {z : ℕ} → z ≡ blockQuorum s → 1 ≤ z

@@ -5,19 +5,19 @@ use mathlib.Core.List.{List}
 use lib.Dec.{leb, ltb, eqb}
 use Rattle.settings.specs.declared.Settings.{Settings}
 use Rattle.settings.specs.Quorum.{blockQuorum, timeoutQuorum, replicas}
-use Rattle.memory.specs.declared.decided.Quest.{Quest}
+use Rattle.memory.specs.declared.decided.Quorums.{Quorums}
 use Rattle.memory.specs.Layout.{settingsOf, voteRow, timeoutRow}
 use Rattle.memory.specs.Kept.{keptCount}
 use Rattle.memory.specs.Window.{lowest, highest}
 use Rattle.memory.specs.Decided.{aloneIn}
 use Rattle.counters.specs.declared.Signed.{Signed}
-use Rattle.protocol.specs.Work.{Work, viewNow}
+use Rattle.protocol.specs.Work.{Work, view, viewNow}
 use Rattle.protocol.specs.Events.{progress}
 use Rattle.protocol.specs.Rules.{formedBlock, ruleA, ruleB, ruleC, each, timeoutViews, ballotViews}
 
 -- what rule C looks for in a view, by the memory alone: `enoughVotes` of protocol
-abbrev pub votesWanted : List ℕ → ℕ → Quest
-votesWanted m v = record { view = v; n = replicas (settingsOf m); votes = blockQuorum (settingsOf m); commits = suc (replicas (settingsOf m)) }
+abbrev pub votesWanted : List ℕ → ℕ → Quorums
+votesWanted m v = record { view = view v; n = replicas (settingsOf m); votes = blockQuorum (settingsOf m); commits = suc (replicas (settingsOf m)) }
 
 -- the block certificate of a name is formed, and does what an accepted one does
 unfoldable pub formsBlock : ℕ → List ℕ → Work → Work

@@ -10,7 +10,7 @@ use certificate::Certificate;
 use counters::adopting;
 use counters::locks;
 use memory::decided::Choice;
-use memory::decided::Quest;
+use memory::decided::Quorums;
 use memory::decided::next_decided;
 use memory::formed::form;
 use memory::kept::count_backers;
@@ -21,6 +21,7 @@ use memory::own;
 use memory::settings;
 use settings::View;
 use wire::Vote;
+use wire::length;
 use wire::write::put_block_certificate;
 ghost use mathlib.Core.Path.{_≡_};
 ghost use Prim.Native.Nat.{_+_, _*_, _≤_, _<_};
@@ -35,15 +36,15 @@ ghost use Rattle.act.specs.Draft.{Does, Ready};
 ghost use Rattle.rules.specs.Phases.{votesWanted, formsBlock, phaseA, phaseB, phaseC, phases};
 
 // Rule A at a view: f+1 timeouts are kept for it, and own timeout is sent.
-pub fn rule_a(mem: &mut [u8], out: &mut [u8], d: Draft, view: u64) -> Draft
+pub fn rule_a(mem: &mut [u8], out: &mut [u8], d: Draft, view: View) -> Draft
     requires { ⌜ Ready d (now mem) (now out) 112 ⌝ }
-    ensures { λ r. ⌜ Does (ruleA view) d (now (mem .entry)) (now (out .entry)) r (now (mem .exit)) (now (out .exit)) ⌝ }
+    ensures { λ r. ⌜ Does (ruleA (view .0)) d (now (mem .entry)) (now (out .entry)) r (now (mem .exit)) (now (out .exit)) ⌝ }
 {
     let c = d.counters;
-    if view < c.view.0 {
+    if view.0 < c.view.0 {
         return d;
     }
-    if view <= c.timed.0 {
+    if view.0 <= c.timed.0 {
         return d;
     }
     let s = settings(mem);
@@ -54,23 +55,23 @@ pub fn rule_a(mem: &mut [u8], out: &mut [u8], d: Draft, view: u64) -> Draft
 }
 
 // The timeout certificate of what is kept for a view is formed, and does what an accepted one does.
-fn form_timeouts(mem: &mut [u8], out: &mut [u8], d: Draft, view: u64) -> Draft
-    requires { ⌜ Ready d (now mem) (now out) entryRoom × ((d .counters .view .0 ≤ view) × (view < lastView)) ⌝ }
-    ensures { λ r. ⌜ Does (progress (formed (now (mem .entry)) view (replicas (settingsOf (now (mem .entry)))) (ownOf (now (mem .entry))))) d (now (mem .entry)) (now (out .entry)) r (now (mem .exit)) (now (out .exit)) ⌝ }
+fn form_timeouts(mem: &mut [u8], out: &mut [u8], d: Draft, view: View) -> Draft
+    requires { ⌜ Ready d (now mem) (now out) entryRoom × ((d .counters .view .0 ≤ view .0) × (view .0 < lastView)) ⌝ }
+    ensures { λ r. ⌜ Does (progress (formed (now (mem .entry)) (view .0) (replicas (settingsOf (now (mem .entry)))) (ownOf (now (mem .entry))))) d (now (mem .entry)) (now (out .entry)) r (now (mem .exit)) (now (out .exit)) ⌝ }
 {
     let at = d.at;
     let n = settings(mem).n() as usize;
-    let to = form(mem, View(view), n, own(mem), out, at);
+    let to = form(mem, view, n, own(mem), out, at);
     act_on(mem, out, d, to - at)
 }
 
 // Rule B at a view: enough timeouts are kept for it.
-pub fn rule_b(mem: &mut [u8], out: &mut [u8], d: Draft, view: u64) -> Draft
-    requires { ⌜ Ready d (now mem) (now out) entryRoom × (view < lastView) ⌝ }
-    ensures { λ r. ⌜ Does (ruleB view) d (now (mem .entry)) (now (out .entry)) r (now (mem .exit)) (now (out .exit)) ⌝ }
+pub fn rule_b(mem: &mut [u8], out: &mut [u8], d: Draft, view: View) -> Draft
+    requires { ⌜ Ready d (now mem) (now out) entryRoom × (view .0 < lastView) ⌝ }
+    ensures { λ r. ⌜ Does (ruleB (view .0)) d (now (mem .entry)) (now (out .entry)) r (now (mem .exit)) (now (out .exit)) ⌝ }
 {
     let c = d.counters;
-    if view < c.view.0 {
+    if view.0 < c.view.0 {
         return d;
     }
     let s = settings(mem);
@@ -82,13 +83,13 @@ pub fn rule_b(mem: &mut [u8], out: &mut [u8], d: Draft, view: u64) -> Draft
 
 // The smallest name of a view for which a block quorum of votes is kept, if there is one. More commits than there are replicas are asked for, so
 // that only votes decide.
-fn most_voted(mem: &[u8], view: u64) -> Choice
+fn most_voted(mem: &[u8], view: View) -> Choice
     requires { ⌜ (memoryLength ≤ length (now mem)) × (replicas (settingsOf (now mem)) ≤ largest) ⌝ }
-    ensures { λ r. ⌜ r ≡ nextDecided (now (mem .entry)) (votesWanted (now (mem .entry)) view) noChoice ⌝ }
+    ensures { λ r. ⌜ r ≡ nextDecided (now (mem .entry)) (votesWanted (now (mem .entry)) (view .0)) noChoice ⌝ }
 {
     let s = settings(mem);
     let n = s.n();
-    let wanted = Quest {
+    let wanted = Quorums {
         view,
         n: n as usize,
         votes: s.block_quorum(),
@@ -102,19 +103,19 @@ fn most_voted(mem: &[u8], view: u64) -> Choice
 }
 
 // The block certificate of a name is formed of the kept votes for it, and does what an accepted one does.
-fn form_block(mem: &mut [u8], out: &mut [u8], d: Draft, view: u64, name: [u8; 32]) -> Draft
-    requires { ⌜ Ready d (now mem) (now out) 104 × (view < lastView) ⌝ }
-    ensures { λ r. ⌜ Does (formsBlock view name) d (now (mem .entry)) (now (out .entry)) r (now (mem .exit)) (now (out .exit)) ⌝ }
+fn form_block(mem: &mut [u8], out: &mut [u8], d: Draft, view: View, name: [u8; 32]) -> Draft
+    requires { ⌜ Ready d (now mem) (now out) 104 × (view .0 < lastView) ⌝ }
+    ensures { λ r. ⌜ Does (formsBlock (view .0) name) d (now (mem .entry)) (now (out .entry)) r (now (mem .exit)) (now (out .exit)) ⌝ }
 {
     let c = d.counters;
     let at = d.at;
     let n = settings(mem).n() as usize;
     let backed = count_backers(mem, vote_row(view), name, n);
     let signers = backed.signers;
-    if view < c.view.0 {
+    if view.0 < c.view.0 {
         let k = Certificate {
             block: true,
-            view: View(view),
+            view,
             name,
             signers,
         };
@@ -123,18 +124,15 @@ fn form_block(mem: &mut [u8], out: &mut [u8], d: Draft, view: u64, name: [u8; 32
             at,
         };
     }
-    let vote = Vote {
-        view: View(view),
-        name,
-    };
+    let vote = Vote { view, name };
     put_block_certificate(out, at, own(mem), vote, signers);
-    act_on(mem, out, d, 56)
+    act_on(mem, out, d, length::BLOCK_CERTIFICATE)
 }
 
 // A name that enough kept votes back, if its certificate outranks the lock.
-fn certify(mem: &mut [u8], out: &mut [u8], d: Draft, view: u64) -> Draft
-    requires { ⌜ Ready d (now mem) (now out) 104 × (view < lastView) ⌝ }
-    ensures { λ r. ⌜ Does (ruleC view) d (now (mem .entry)) (now (out .entry)) r (now (mem .exit)) (now (out .exit)) ⌝ }
+fn certify(mem: &mut [u8], out: &mut [u8], d: Draft, view: View) -> Draft
+    requires { ⌜ Ready d (now mem) (now out) 104 × (view .0 < lastView) ⌝ }
+    ensures { λ r. ⌜ Does (ruleC (view .0)) d (now (mem .entry)) (now (out .entry)) r (now (mem .exit)) (now (out .exit)) ⌝ }
 {
     let found = most_voted(mem, view);
     if !found.some {
@@ -146,7 +144,7 @@ fn certify(mem: &mut [u8], out: &mut [u8], d: Draft, view: u64) -> Draft
     let lock = l.lock;
     let k = Certificate {
         block: true,
-        view: View(view),
+        view,
         name,
         signers: 0,
     };
@@ -157,13 +155,13 @@ fn certify(mem: &mut [u8], out: &mut [u8], d: Draft, view: u64) -> Draft
 }
 
 // Rule C at a view: enough votes are kept for a name, and its certificate outranks the lock. Below the lock's view none does.
-pub fn rule_c(mem: &mut [u8], out: &mut [u8], d: Draft, view: u64) -> Draft
-    requires { ⌜ Ready d (now mem) (now out) 104 × (view < lastView) ⌝ }
-    ensures { λ r. ⌜ Does (ruleC view) d (now (mem .entry)) (now (out .entry)) r (now (mem .exit)) (now (out .exit)) ⌝ }
+pub fn rule_c(mem: &mut [u8], out: &mut [u8], d: Draft, view: View) -> Draft
+    requires { ⌜ Ready d (now mem) (now out) 104 × (view .0 < lastView) ⌝ }
+    ensures { λ r. ⌜ Does (ruleC (view .0)) d (now (mem .entry)) (now (out .entry)) r (now (mem .exit)) (now (out .exit)) ⌝ }
 {
     let c = d.counters;
     let lock = c.lock;
-    if view < lock.view.0 {
+    if view.0 < lock.view.0 {
         return d;
     }
     certify(mem, out, d, view)

@@ -4,7 +4,7 @@ use crate::rule_b;
 use crate::rule_c;
 use act::Draft;
 use counters::Signed;
-use memory::decided::weigh;
+use memory::decided::standing_of;
 use memory::kept::kept_count;
 use memory::kept::timeout_row;
 use memory::kept::vote_row;
@@ -12,6 +12,7 @@ use memory::settings;
 use memory::window::highest;
 use memory::window::lowest;
 use settings::Settings;
+use settings::View;
 ghost use mathlib.Core.Path.{_≡_};
 ghost use Prim.Native.Nat.{_+_, _*_, _≤_};
 ghost use lib.ListN.{length};
@@ -26,10 +27,10 @@ fn run_a(mem: &mut [u8], out: &mut [u8], d: Draft) -> Draft
 {
     let c = d.counters;
     let mut view = c.view.0;
-    let last = highest(view);
+    let last = highest(c.view).0;
     let mut next = d;
     while view <= last {
-        next = rule_a(mem, out, next, view);
+        next = rule_a(mem, out, next, View(view));
         view += 1;
     }
     next
@@ -41,10 +42,10 @@ fn run_b(mem: &mut [u8], out: &mut [u8], d: Draft) -> Draft
 {
     let c = d.counters;
     let mut view = c.view.0;
-    let last = highest(view);
+    let last = highest(c.view).0;
     let mut next = d;
     while view <= last {
-        next = rule_b(mem, out, next, view);
+        next = rule_b(mem, out, next, View(view));
         view += 1;
     }
     next
@@ -55,11 +56,11 @@ fn run_c(mem: &mut [u8], out: &mut [u8], d: Draft) -> Draft
     ensures { λ r. ⌜ Does phaseC d (now (mem .entry)) (now (out .entry)) r (now (mem .exit)) (now (out .exit)) ⌝ }
 {
     let c = d.counters;
-    let mut view = lowest(c.view.0);
-    let last = highest(c.view.0);
+    let mut view = lowest(c.view).0;
+    let last = highest(c.view).0;
     let mut next = d;
     while view <= last {
-        next = rule_c(mem, out, next, view);
+        next = rule_c(mem, out, next, View(view));
         view += 1;
     }
     next
@@ -76,27 +77,27 @@ fn run_all(mem: &mut [u8], out: &mut [u8], d: Draft) -> Draft
 }
 
 // So many timeouts are kept for a view that rule A or B may apply. Once own timeout is sent only B does, which takes more.
-fn echoable(mem: &[u8], s: Settings, view: u64, timed: u64) -> bool
+fn echoable(mem: &[u8], s: Settings, view: View, timed: View) -> bool
     requires { ⌜ (memoryLength ≤ length (now mem)) × (replicas s ≤ largest) ⌝ }
-    ensures { λ r. ⌜ r ≡ echoable (now (mem .entry)) s timed view ⌝ }
+    ensures { λ r. ⌜ r ≡ echoable (now (mem .entry)) s (timed .0) (view .0) ⌝ }
 {
     let kept = kept_count(mem, timeout_row(view), s.n());
-    if timed < view {
+    if timed.0 < view.0 {
         return (s.f as u64) < kept;
     }
     s.timeout_quorum() <= kept
 }
 
 // For none of the views from here on so many timeouts are kept that rule A or B applies.
-fn few_timeouts(mem: &[u8], view: u64, timed: u64) -> bool
-    requires { ⌜ (memoryLength ≤ length (now mem)) × ((replicas (settingsOf (now mem)) ≤ largest) × ((1 ≤ view) × (view ≤ lastView))) ⌝ }
-    ensures { λ r. ⌜ r ≡ fewTimeouts (now (mem .entry)) view timed ⌝ }
+fn few_timeouts(mem: &[u8], view: View, timed: View) -> bool
+    requires { ⌜ (memoryLength ≤ length (now mem)) × ((replicas (settingsOf (now mem)) ≤ largest) × ((1 ≤ view .0) × (view .0 ≤ lastView))) ⌝ }
+    ensures { λ r. ⌜ r ≡ fewTimeouts (now (mem .entry)) (view .0) (timed .0) ⌝ }
 {
     let s = settings(mem);
-    let last = highest(view);
-    let mut at = view;
+    let last = highest(view).0;
+    let mut at = view.0;
     while at <= last {
-        if echoable(mem, s, at, timed) {
+        if echoable(mem, s, View(at), timed) {
             return false;
         }
         at += 1;
@@ -105,31 +106,31 @@ fn few_timeouts(mem: &[u8], view: u64, timed: u64) -> bool
 }
 
 // So many votes are kept for a view that rule C may apply: at the lock's own view, so many for another name than the lock's.
-fn certifiable(mem: &[u8], s: Settings, view: u64, lock: Signed) -> bool
+fn certifiable(mem: &[u8], s: Settings, view: View, lock: Signed) -> bool
     requires { ⌜ (memoryLength ≤ length (now mem)) × (replicas s ≤ largest) ⌝ }
-    ensures { λ r. ⌜ r ≡ certifiable (now (mem .entry)) s lock view ⌝ }
+    ensures { λ r. ⌜ r ≡ certifiable (now (mem .entry)) s lock (view .0) ⌝ }
 {
-    if view < lock.view.0 {
+    if view.0 < lock.view.0 {
         return false;
     }
-    if view == lock.view.0 {
+    if view.0 == lock.view.0 {
         let name = lock.name;
-        let w = weigh(mem, vote_row(view), s.n() as usize, s.block_quorum(), name);
+        let w = standing_of(mem, vote_row(view), s.n() as usize, s.block_quorum(), name);
         return !w.alone;
     }
     s.block_quorum() <= kept_count(mem, vote_row(view), s.n())
 }
 
 // For none of the views from the lock's on enough votes are kept for rule C.
-fn few_votes(mem: &[u8], view: u64, lock: Signed) -> bool
-    requires { ⌜ (memoryLength ≤ length (now mem)) × ((replicas (settingsOf (now mem)) ≤ largest) × ((1 ≤ view) × (view ≤ lastView))) ⌝ }
-    ensures { λ r. ⌜ r ≡ fewVotes (now (mem .entry)) view lock ⌝ }
+fn few_votes(mem: &[u8], view: View, lock: Signed) -> bool
+    requires { ⌜ (memoryLength ≤ length (now mem)) × ((replicas (settingsOf (now mem)) ≤ largest) × ((1 ≤ view .0) × (view .0 ≤ lastView))) ⌝ }
+    ensures { λ r. ⌜ r ≡ fewVotes (now (mem .entry)) (view .0) lock ⌝ }
 {
     let s = settings(mem);
-    let last = highest(view);
-    let mut at = lowest(view);
+    let last = highest(view).0;
+    let mut at = lowest(view).0;
     while at <= last {
-        if certifiable(mem, s, at, lock) {
+        if certifiable(mem, s, View(at), lock) {
             return false;
         }
         at += 1;
@@ -144,8 +145,8 @@ pub fn run(mem: &mut [u8], out: &mut [u8], d: Draft) -> Draft
 {
     let c = d.counters;
     let lock = c.lock;
-    if few_timeouts(mem, c.view.0, c.timed.0) {
-        if few_votes(mem, c.view.0, lock) {
+    if few_timeouts(mem, c.view, c.timed) {
+        if few_votes(mem, c.view, lock) {
             return d;
         }
     }

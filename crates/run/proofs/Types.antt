@@ -3,6 +3,7 @@ use Rattle.walks.proofs.Walk.LL
 use mir.Syntax.{Ty}
 use denote.RattleType.{RattleType}
 use Rattle.walks.proofs.Data.{Data, At, again, word, flag, struct}
+use Rattle.counters.proofs.Types.{Viewᴰ}
 use Rattle.replica.proofs.Types.{Nameᴰ}
 use Rattle.run.specs.declared.Request.{Request}
 use Rattle.run.proofs.Request as Requestᵐ
@@ -32,8 +33,8 @@ Request-answer x is = LL.owed Requestᵐ.the-type Request′.the-laws x _ is .1 
 pub Request-timer : (x : Request) → At Requestᴰ x → At flag (x .timer)
 Request-timer x is = LL.owed Requestᵐ.the-type Request′.the-laws x _ is .1 .1 .0
 
-pub Request-view : (x : Request) → At Requestᴰ x → At word (x .view)
-Request-view x is = LL.owed Requestᵐ.the-type Request′.the-laws x _ is .1 .1 .1 .0
+pub Request-view : (x : Request) → At Requestᴰ x → At Viewᴰ (x .view)
+Request-view x is = again Viewᴰ (x .view) _ (LL.owed Requestᵐ.the-type Request′.the-laws x _ is .1 .1 .1 .0)
 
 pub Request-propose : (x : Request) → At Requestᴰ x → At flag (x .propose)
 Request-propose x is = LL.owed Requestᵐ.the-type Request′.the-laws x _ is .1 .1 .1 .1 .0

@@ -1,4 +1,4 @@
-// Records on standard input, read into a buffer of 3,696 bytes, the longest record. With a shorter buffer nothing is read.
+// Records on standard input, read into a buffer that holds the longest record. With a shorter buffer nothing is read.
 use crate::Opening;
 use crate::Request;
 use codec::name_at;
@@ -6,8 +6,17 @@ use codec::num::u16_at;
 use codec::num::u32_at;
 use codec::num::u64_at;
 use replica::Name;
+use settings::View;
+use wire::length;
 ghost use Prim.Native.Nat.{_≤_};
 ghost use lib.ListN.{length};
+
+// The lengths of what the host says to the program: kinds 12, 10 and 11.
+const OPENING: usize = 24;
+
+const TIMER: usize = 16;
+
+const PROPOSE: usize = 40;
 
 // Settings that every opening refuses stand for a first record that is none of kind 12.
 fn none() -> Opening {
@@ -20,11 +29,11 @@ fn none() -> Opening {
     }
 }
 
-// Length 24, kind 12, sender 0, and 6 zero bytes at the end.
+// Its length, kind 12, sender 0, and 6 zero bytes at the end.
 fn well_formed(rec: &[u8]) -> bool
     requires { ⌜ 24 ≤ length (now rec) ⌝ }
 {
-    if u32_at(rec, 0) != 24 {
+    if u32_at(rec, 0) as usize != OPENING {
         return false;
     }
     if u16_at(rec, 4) != 12 {
@@ -47,11 +56,11 @@ fn field(rec: &[u8], at: usize) -> u64
 
 // The first record.
 pub fn opening(rec: &mut [u8]) -> Opening {
-    if rec.len() < 24 {
+    if rec.len() < OPENING {
         return none();
     }
-    let got = io::read_full(0, &mut rec[0..24]);
-    if got < 24 {
+    let got = io::read_full(0, &mut rec[0..OPENING]);
+    if got < OPENING {
         return none();
     }
     if !well_formed(rec) {
@@ -71,7 +80,7 @@ fn no_call(ended: bool, answer: u64) -> Request {
         ended,
         answer,
         timer: false,
-        view: 0,
+        view: View(0),
         propose: false,
         name: Name { bytes: [0u8; 32] },
         record: false,
@@ -88,7 +97,7 @@ fn refused(answer: u64) -> Request {
     no_call(false, answer)
 }
 
-fn timer(view: u64) -> Request {
+fn timer(view: View) -> Request {
     let mut r = no_call(false, 0);
     r.timer = true;
     r.view = view;
@@ -117,16 +126,16 @@ fn asked(rec: &[u8], n: usize) -> Request
     let kind = u16_at(rec, 4);
     let sender = u16_at(rec, 6);
     if kind == 10 {
-        if n != 16 {
+        if n != TIMER {
             return refused(3);
         }
         if sender != 0 {
             return refused(6);
         }
-        return timer(u64_at(rec, 8));
+        return timer(View(u64_at(rec, 8)));
     }
     if kind == 11 {
-        if n != 40 {
+        if n != PROPOSE {
             return refused(3);
         }
         if sender != 0 {
@@ -137,27 +146,27 @@ fn asked(rec: &[u8], n: usize) -> Request
     record(n)
 }
 
-// The next record. A length under 8 or over 3,696 is refused, and so is a record that is cut short.
+// The next record. A length under a header's or over the longest record's is refused, and so is a record that is cut short.
 pub fn request(rec: &mut [u8]) -> Request {
-    if rec.len() < 3696 {
+    if rec.len() < length::LONGEST_RECORD {
         return ended();
     }
-    let head = io::read_full(0, &mut rec[0..8]);
+    let head = io::read_full(0, &mut rec[0..length::HEADER]);
     if head == 0 {
         return ended();
     }
-    if head < 8 {
+    if head < length::HEADER {
         return refused(3);
     }
     let n = u32_at(rec, 0) as usize;
-    if n < 8 {
+    if n < length::HEADER {
         return refused(3);
     }
-    if 3696 < n {
+    if length::LONGEST_RECORD < n {
         return refused(3);
     }
-    let rest = io::read_full(0, &mut rec[8..n]);
-    if rest < n - 8 {
+    let rest = io::read_full(0, &mut rec[length::HEADER..n]);
+    if rest < n - length::HEADER {
         return refused(3);
     }
     asked(rec, n)

@@ -1,4 +1,6 @@
 // What is printed.
+use settings::Height;
+use settings::View;
 
 fn text(s: &[u8]) {
     io::write_all(1, s);
@@ -17,15 +19,15 @@ pub fn refused() {
     text(b"0 1 0 0 0\n");
 }
 
-pub fn line(call: u64, answer: u64, view: u64, timed: u64, height: u64) {
+pub fn line(call: u64, answer: u64, view: View, timed: View, height: Height) {
     number(call);
     text(b" ");
     number(answer);
     text(b" ");
-    number(view);
+    number(view.0);
     text(b" ");
-    number(timed);
+    number(timed.0);
     text(b" ");
-    number(height);
+    number(height.0);
     text(b"\n");
 }

@@ -6,11 +6,15 @@ mod input;
 mod lines;
 
 use blocks::Block;
+use blocks::STORE_LENGTH;
 use counters::Counters;
 use counters::opened;
+use refusals::regions::OUTPUT_LENGTH;
 use replica::Name;
 use replica::Reply;
 use settings::Height;
+use settings::View;
+use wire::length::LONGEST_RECORD;
 ghost use mathlib.Core.Path.{_≡_};
 ghost use mathlib.Core.Bool.{true};
 ghost use Prim.Native.Nat.{_<_};
@@ -34,14 +38,14 @@ struct Request {
     ended: bool,
     answer: u64,
     timer: bool,
-    view: u64,
+    view: View,
     propose: bool,
     name: Name,
     record: bool,
     length: usize,
 }
 
-// Whether `play` goes on, and at which level.
+// Whether `run_steps` goes on, and at which level.
 struct Depth {
     goes: bool,
     level: u64,
@@ -90,7 +94,8 @@ fn report(c: Counters, ended: bool, answer: u64, next: u64) -> u64 {
     if ended {
         return 0;
     }
-    lines::line(next, answer, c.view.0, c.timed.0, c.tip.height.0);
+    let tip = c.tip;
+    lines::line(next, answer, c.view, c.timed, tip.height);
     if answer == 3 {
         return 0;
     }
@@ -135,7 +140,7 @@ fn empty_block() -> Block {
 // ---- functions over counters and store
 
 // The counters are read for the line, and stay as they are.
-fn tell(counters: &mut Counters, ended: bool, answer: u64, next: u64) -> u64
+fn report_call(counters: &mut Counters, ended: bool, answer: u64, next: u64) -> u64
     ensures { λ r. ⌜ now (counters .exit) ≡ now (counters .entry) ⌝ }
 {
     let c = *counters;
@@ -158,15 +163,15 @@ fn timer_call(
     store: &mut [Block],
     out: &mut [u8],
     is: bool,
-    view: u64,
+    view: View,
     answer: u64,
 ) -> u64
     ensures { λ r. ⌜ Asked is answer r (lentTo (now (counters .entry)) (now (mem .entry)) (now (store .entry)))
         (lentTo (now (counters .exit)) (now (mem .exit)) (now (store .exit))) (now (out .entry)) (now (out .exit))
-        (timerCall (lentTo (now (counters .entry)) (now (mem .entry)) (now (store .entry))) (now (out .entry)) view) ⌝ }
+        (timerCall (lentTo (now (counters .entry)) (now (mem .entry)) (now (store .entry))) (now (out .entry)) (view .0)) ⌝ }
 {
     if is {
-        let r = replica::hydrangea_timer(counters, mem, store, out, view);
+        let r = replica::hydrangea_timer(counters, mem, store, out, view.0);
         refusal_of(r)
     } else {
         answer
@@ -250,11 +255,11 @@ fn step(
         asked.length,
         proposed,
     );
-    tell(counters, asked.ended, answer, next)
+    report_call(counters, asked.ended, answer, next)
 }
 
 // Up to 2 ^ level - 1 steps: half of them before the middle one and half after it. A run of any length is then no deeper on the stack than the level.
-fn play(
+fn run_steps(
     counters: &mut Counters,
     mem: &mut [u8],
     store: &mut [Block],
@@ -268,33 +273,33 @@ fn play(
 {
     let b = shallower(level, next);
     if b.goes {
-        let early = play(counters, mem, store, out, rec, b.level, next);
+        let early = run_steps(counters, mem, store, out, rec, b.level, next);
         let middle = step(counters, mem, store, out, rec, early);
-        play(counters, mem, store, out, rec, b.level, middle)
+        run_steps(counters, mem, store, out, rec, b.level, middle)
     } else {
         next
     }
 }
 
-// ---- the regions: memory of 34,504 bytes, store of 128 blocks, output of 32,768 bytes
+// ---- the regions: each as long as a call asks, and a buffer for the longest record
 
 fn with_counters(mem: &mut [u8], store: &mut [Block], out: &mut [u8], rec: &mut [u8]) -> u64 {
     let o = read_opening(rec);
     let mut c = opened();
     let refusal = open_call(&mut c, mem, store, o);
     let next = begin(refusal);
-    play(&mut c, mem, store, out, rec, 62, next)
+    run_steps(&mut c, mem, store, out, rec, 62, next)
 }
 
 fn with_store(mem: &mut [u8], out: &mut [u8], rec: &mut [u8]) -> u64 {
     let zero = empty_block();
-    let mut store = [zero; 128];
+    let mut store = [zero; STORE_LENGTH];
     with_counters(mem, &mut store, out, rec)
 }
 
 fn main() {
-    let mut mem = [0u8; 34504];
-    let mut out = [0u8; 32768];
-    let mut rec = [0u8; 3696];
+    let mut mem = [0u8; memory::LENGTH];
+    let mut out = [0u8; OUTPUT_LENGTH];
+    let mut rec = [0u8; LONGEST_RECORD];
     with_store(&mut mem, &mut out, &mut rec);
 }

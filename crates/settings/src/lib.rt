@@ -11,7 +11,7 @@ pub struct View(pub u64);
 
 impl View {
     // The last view: views stay at or below 2^62.
-    pub const LAST: u64 = 0x4000_0000_0000_0000;
+    pub const LAST: View = View(0x4000_0000_0000_0000);
 }
 
 // A block's height: the number of its ancestors.
@@ -20,7 +20,7 @@ pub struct Height(pub u64);
 
 impl Height {
     // The largest height: heights stay at or below 2^62.
-    pub const LAST: u64 = 0x4000_0000_0000_0000;
+    pub const LAST: Height = Height(0x4000_0000_0000_0000);
 }
 
 // 01: f Byzantine replicas, c more that may stop, and k. A width of 16 bits holds whatever a cluster needs, and no formula can wrap.

@@ -6,6 +6,8 @@ use codec::num::le_at;
 use codec::num::u16_at;
 use codec::num::u32_at;
 use codec::num::u64_at;
+use settings::View;
+use wire::length;
 ghost use mathlib.Core.Path.{_≡_};
 ghost use mathlib.Core.Bool.{false};
 ghost use Prim.Native.Nat.{_+_, _*_, _≤_};
@@ -13,6 +15,9 @@ ghost use lib.ListN.{length, drop};
 ghost use Rattle.wire.specs.Fields.{cut, progressOf};
 ghost use Rattle.wire.specs.Shape.{any, frameBad, timeoutsLength, certificateLength, progressLength, kindLength, badLength, carriedKindBad, slotKindBad, certificateKindBad, badKind, beyond, halfEmpty, timeoutValueBad, slotValueBad, slotsValueBad, certificateValueBad, progressValueBad, proposalValueBad, badValue, shapeOf};
 ghost use Rattle.shape.specs.Verdict.{verdict};
+
+// Where the header of a proposal's progress certificate ends.
+const INNER_HEADER_END: usize = length::PROPOSAL_HEAD + length::HEADER;
 
 // What the place says of a slice.
 pub enum Verdict {
@@ -28,7 +33,7 @@ pub enum Verdict {
 fn frame_bad(rec: &[u8]) -> bool
     ensures { λ r. ⌜ r ≡ frameBad (now (rec .entry)) ⌝ }
 {
-    if rec.len() < 8 {
+    if rec.len() < length::HEADER {
         return true;
     }
     u32_at(rec, 0) as usize != rec.len()
@@ -40,8 +45,8 @@ fn slots_frame_bad(rec: &[u8], count: usize) -> bool
 {
     let mut i = 0;
     while i < count {
-        let at = 24 + 112 * i;
-        if frame_bad(&rec[at..at + 112]) {
+        let at = length::TIMEOUTS_HEAD + length::TIMEOUT * i;
+        if frame_bad(&rec[at..at + length::TIMEOUT]) {
             return true;
         }
         i += 1;
@@ -52,11 +57,11 @@ fn slots_frame_bad(rec: &[u8], count: usize) -> bool
 fn timeouts_length_bad(rec: &[u8]) -> bool
     ensures { λ r. ⌜ r ≡ timeoutsLength (now (rec .entry)) ⌝ }
 {
-    if rec.len() < 24 {
+    if rec.len() < length::TIMEOUTS_HEAD {
         return true;
     }
     let count = u16_at(rec, 16) as usize;
-    if rec.len() != 24 + 112 * count {
+    if rec.len() != length::TIMEOUTS_HEAD + length::TIMEOUT * count {
         return true;
     }
     slots_frame_bad(rec, count)
@@ -68,7 +73,7 @@ fn certificate_length_bad(rec: &[u8]) -> bool
 {
     let kind = u16_at(rec, 4);
     if kind == 3 {
-        return rec.len() != 56;
+        return rec.len() != length::BLOCK_CERTIFICATE;
     }
     if kind == 6 {
         return timeouts_length_bad(rec);
@@ -83,19 +88,19 @@ fn kind_length_bad(rec: &[u8]) -> bool
 {
     let kind = u16_at(rec, 4);
     if kind == 1 {
-        return rec.len() != 48;
+        return rec.len() != length::VOTE;
     }
     if kind == 2 {
-        return rec.len() != 48;
+        return rec.len() != length::VOTE;
     }
     if kind == 5 {
-        return rec.len() != 112;
+        return rec.len() != length::TIMEOUT;
     }
     if kind == 7 {
         return progress_length_bad(rec);
     }
     if kind == 8 {
-        return rec.len() != 80;
+        return rec.len() != length::BLOCK;
     }
     certificate_length_bad(rec)
 }
@@ -104,10 +109,10 @@ fn kind_length_bad(rec: &[u8]) -> bool
 fn progress_length_bad(rec: &[u8]) -> bool
     ensures { λ r. ⌜ r ≡ progressLength (now (rec .entry)) ⌝ }
 {
-    if rec.len() < 96 {
+    if rec.len() < INNER_HEADER_END {
         return true;
     }
-    let inner = &rec[88..];
+    let inner = &rec[length::PROPOSAL_HEAD..];
     if frame_bad(inner) {
         return true;
     }
@@ -152,8 +157,8 @@ fn slots_kind_bad(rec: &[u8], count: usize) -> bool
 {
     let mut i = 0;
     while i < count {
-        let at = 24 + 112 * i;
-        if slot_kind_bad(&rec[at..at + 112]) {
+        let at = length::TIMEOUTS_HEAD + length::TIMEOUT * i;
+        if slot_kind_bad(&rec[at..at + length::TIMEOUT]) {
             return true;
         }
         i += 1;
@@ -191,7 +196,7 @@ fn bad_kind(rec: &[u8]) -> bool
         return carried_kind_bad(rec);
     }
     if kind == 7 {
-        return certificate_kind_bad(&rec[88..]);
+        return certificate_kind_bad(&rec[length::PROPOSAL_HEAD..]);
     }
     if kind == 8 {
         return false;
@@ -211,10 +216,10 @@ fn signer_beyond(n: u64, signers: u64) -> bool
     1u64 << n <= signers
 }
 
-fn half_empty(view: u64, name: [u8; 32]) -> bool
-    ensures { λ r. ⌜ r ≡ halfEmpty view name ⌝ }
+fn half_empty(view: View, name: [u8; 32]) -> bool
+    ensures { λ r. ⌜ r ≡ halfEmpty (view .0) name ⌝ }
 {
-    if view == 0 {
+    if view.0 == 0 {
         return !is_zero(name);
     }
     is_zero(name)
@@ -227,17 +232,17 @@ fn timeout_value_bad(rec: &[u8], n: u64) -> bool
     if le_at(rec, 58, 6) != 0 {
         return true;
     }
-    if half_empty(u64_at(rec, 16), name_at(rec, 24)) {
+    if half_empty(View(u64_at(rec, 16)), name_at(rec, 24)) {
         return true;
     }
     signer_beyond(n, u64_at(rec, 104))
 }
 
-fn slot_value_bad(rec: &[u8], n: u64, view: u64, low: u64) -> bool
+fn slot_value_bad(rec: &[u8], n: u64, view: View, low: u64) -> bool
     requires { ⌜ 112 ≤ length (now rec) ⌝ }
-    ensures { λ r. ⌜ r ≡ slotValueBad n view low (now (rec .entry)) ⌝ }
+    ensures { λ r. ⌜ r ≡ slotValueBad n (view .0) low (now (rec .entry)) ⌝ }
 {
-    if u64_at(rec, 8) != view {
+    if u64_at(rec, 8) != view.0 {
         return true;
     }
     let sender = u16_at(rec, 6) as u64;
@@ -250,15 +255,15 @@ fn slot_value_bad(rec: &[u8], n: u64, view: u64, low: u64) -> bool
     timeout_value_bad(rec, n)
 }
 
-fn slots_value_bad(rec: &[u8], count: usize, n: u64, view: u64) -> bool
+fn slots_value_bad(rec: &[u8], count: usize, n: u64, view: View) -> bool
     requires { ⌜ 24 + 112 * count ≤ length (now rec) ⌝ }
-    ensures { λ r. ⌜ r ≡ slotsValueBad n view 0 (cut count (drop 24 (now (rec .entry)))) ⌝ }
+    ensures { λ r. ⌜ r ≡ slotsValueBad n (view .0) 0 (cut count (drop 24 (now (rec .entry)))) ⌝ }
 {
     let mut i = 0;
     let mut low: u64 = 0;
     while i < count {
-        let at = 24 + 112 * i;
-        let slot = &rec[at..at + 112];
+        let at = length::TIMEOUTS_HEAD + length::TIMEOUT * i;
+        let slot = &rec[at..at + length::TIMEOUT];
         if slot_value_bad(slot, n, view, low) {
             return true;
         }
@@ -279,7 +284,7 @@ fn certificate_value_bad(rec: &[u8], n: u64) -> bool
         return true;
     }
     let count = u16_at(rec, 16) as usize;
-    let view = u64_at(rec, 8);
+    let view = View(u64_at(rec, 8));
     slots_value_bad(rec, count, n, view)
 }
 
@@ -305,7 +310,7 @@ fn proposal_value_bad(rec: &[u8], n: u64) -> bool
         return true;
     }
     let sender = u16_at(rec, 6);
-    progress_value_bad(&rec[88..], n, sender)
+    progress_value_bad(&rec[length::PROPOSAL_HEAD..], n, sender)
 }
 
 fn bad_value(rec: &[u8], n: u64) -> bool

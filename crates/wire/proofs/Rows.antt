@@ -9,7 +9,7 @@ use lib.ListN.{length, take, drop, length-append, take-append-drop}
 use lib.Seq.{take-at, drop-at, drop-drop}
 use Rattle.codec.specs.Bytes.{IsBytes, leNat, leBytes, part}
 use Rattle.codec.proofs.Laws.{length-part}
-use Rattle.codec.proofs.Le.{bytes-drop, bytes-take, leNat-lt, length-leBytes, leNat-leBytes, leBytes-leNat}
+use Rattle.codec.proofs.Le.{bytes-part, leNat-lt, length-leBytes, leNat-leBytes, leBytes-leNat}
 use Rattle.wire.specs.Fit.{All}
 
 -- ---- bytes
@@ -23,10 +23,6 @@ unfolding leBytes
 bytes-leBytes zero n i = lit< tt
 bytes-leBytes (suc k) n zero = omega arith
 bytes-leBytes (suc k) n (suc i) = bytes-leBytes k (n / 256) i
-
-pub bytes-part : (r : List ℕ) (at n : ℕ) → IsBytes r → IsBytes (part r at n)
-unfolding part
-bytes-part r at n b = bytes-take n (drop at r) (bytes-drop at r b)
 
 -- ---- a field: a number in k bytes, or k bytes as they are
 pub data Field : Type 0 where

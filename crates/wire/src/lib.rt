@@ -2,6 +2,7 @@
 // Promises: a field is the number or the bytes that stand at 01's place; what a writer leaves is the region with the record's bytes in it;
 // what is written reads back to the same content, and no other bytes read as it (proofs/ReadBack.antt). A `requires` asks only that the
 // record has its kind's length, or that the region has room. Rests on `codec` and `settings`.
+pub mod length;
 pub mod read;
 pub mod write;
 

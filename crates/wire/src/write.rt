@@ -3,6 +3,7 @@ use crate::Child;
 use crate::Release;
 use crate::Timeout;
 use crate::Vote;
+use crate::length;
 use codec::num::put_le;
 use codec::num::put_u16;
 use codec::num::put_u32;
@@ -31,7 +32,7 @@ pub fn put_vote(out: &mut [u8], at: usize, kind: u16, sender: u16, vote: Vote)
     ensures { λ _. ⌜ now (out .exit) ≡ patch (now (out .entry)) at (voteBytes kind sender (vote .view .0) (vote .name)) ⌝ }
 {
     let name = vote.name;
-    put_header(out, at, 48, kind, sender);
+    put_header(out, at, length::VOTE as u32, kind, sender);
     put_u64(out, at + 8, vote.view.0);
     put_name(out, at + 16, name);
 }
@@ -41,7 +42,7 @@ pub fn put_block_certificate(out: &mut [u8], at: usize, sender: u16, vote: Vote,
     ensures { λ _. ⌜ now (out .exit) ≡ patch (now (out .entry)) at (blockCertificateBytes sender (vote .view .0) (vote .name) signers) ⌝ }
 {
     let name = vote.name;
-    put_header(out, at, 56, 3, sender);
+    put_header(out, at, length::BLOCK_CERTIFICATE as u32, 3, sender);
     put_u64(out, at + 8, vote.view.0);
     put_name(out, at + 16, name);
     put_u64(out, at + 48, signers);
@@ -52,7 +53,7 @@ pub fn put_release(out: &mut [u8], at: usize, sender: u16, release: Release)
     ensures { λ _. ⌜ now (out .exit) ≡ patch (now (out .entry)) at (releaseBytes sender (release .view .0) (release .name) (release .height .0)) ⌝ }
 {
     let name = release.name;
-    put_header(out, at, 56, 9, sender);
+    put_header(out, at, length::RELEASE as u32, 9, sender);
     put_u64(out, at + 8, release.view.0);
     put_name(out, at + 16, name);
     put_u64(out, at + 48, release.height.0);
@@ -65,7 +66,7 @@ fn put_timeout_head(out: &mut [u8], at: usize, t: Timeout)
 {
     let high = t.high;
     let name = high.name;
-    put_header(out, at, 112, 5, t.sender);
+    put_header(out, at, length::TIMEOUT as u32, 5, t.sender);
     put_u64(out, at + 8, t.view.0);
     put_u64(out, at + 16, high.view.0);
     put_name(out, at + 24, name);
@@ -90,9 +91,9 @@ pub fn put_timeouts_head(out: &mut [u8], at: usize, sender: u16, view: View, siz
     requires { ⌜ (at + 24 ≤ length (now out)) × (size < 2 ^ 32 - 24) ⌝ }
     ensures { λ _. ⌜ now (out .exit) ≡ patch (now (out .entry)) at (timeoutsHeadBytes sender (view .0) size) ⌝ }
 {
-    put_header(out, at, (24 + size) as u32, 6, sender);
+    put_header(out, at, (length::TIMEOUTS_HEAD + size) as u32, 6, sender);
     put_u64(out, at + 8, view.0);
-    put_le(out, at + 16, 2, (size / 112) as u64);
+    put_le(out, at + 16, 2, (size / length::TIMEOUT) as u64);
     put_le(out, at + 18, 6, 0);
 }
 
@@ -110,7 +111,7 @@ pub fn put_proposal_head(
 {
     let name = child.name;
     let parent = child.parent;
-    put_header(out, at, (88 + size) as u32, 7, sender);
+    put_header(out, at, (length::PROPOSAL_HEAD + size) as u32, 7, sender);
     put_u64(out, at + 8, view.0);
     put_name(out, at + 16, name);
     put_name(out, at + 48, parent);
@@ -130,5 +131,5 @@ pub fn put_proposal(
     ensures { λ _. ⌜ now (out .exit) ≡ patch (now (out .entry)) at (proposalBytes sender (view .0) (child .name) (child .parent) (child .height .0) (now (progress .entry))) ⌝ }
 {
     put_proposal_head(out, at, sender, view, child, progress.len());
-    put(out, at + 88, progress);
+    put(out, at + length::PROPOSAL_HEAD, progress);
 }

@@ -20,4 +20,9 @@ unfolding timeoutBy
 returns c = rw (c .carried .ensures, c .before .highest .ensures, c .before .before .locks .ensures)
 
 pub own-timeout-spec : {M : Type 1} → statement M
-own-timeout-spec = tie.close (tie.spec locks-requires highest-requires carried-requires returns)
+own-timeout-spec = tie.close
+    (tie.spec
+    locks-requires
+    highest-requires
+    carried-requires
+    returns)

@@ -28,8 +28,8 @@ slice-aggregate-keep c = search needs
 keep-requires : tie.Need-keep-requires
 keep-requires c κs = let f = ready-facts _ _ _ (c .before .before .before .before .before .before .before .before .before .before .before .before .pre) in (omega (arith, c .before .commit-row .ensures), (search needs, (omega (arith, c .before .before .before .before .before .before .before .before .own .ensures, f .few, f .member), omega (arith, c .before .commit-row .ensures, c .before .before .before .before .before .before .before .before .before .before .before .before .pre .long))))
 
-add-t20 : tie.Need-add-t20
-add-t20 c = search needs
+add-t19 : tie.Need-add-t19
+add-t19 c = search needs
 
 same-length : tie.Need-same-length
 same-length c = search needs
@@ -38,7 +38,7 @@ same-length-2 : tie.Need-same-length-2
 same-length-2 c = search needs
 
 returns : tie.Need-returns
-returns c = let a = c .before .before .before .before .before .before .before .before .before .before .before .before .before .before .before .args in commit-does (a .d) _ _ (a .view) (a .t5) (name-typed (a .t5) (c .before .before .before .before .before .before .before .before .before .before .before .before .before .before .before .good .1 .1 .1 .1 .0) .size) (c .before .before .before .before .before .before .before .before .before .before .before .before .before .before .before .pre .room) (c .before .before .before .before .before .before .before .before .before .before .before .own .ensures) (c .before .before .before .before .before .before .before .before .put-vote .ensures) (c .before .before .before .before .commit-row .ensures) (c .before .before .keep .ensures)
+returns c = let a = c .before .before .before .before .before .before .before .before .before .before .before .before .before .before .before .args in commit-does (a .d) _ _ (a .view .0) (a .t5) (name-typed (a .t5) (c .before .before .before .before .before .before .before .before .before .before .before .before .before .before .before .good .1 .1 .1 .1 .0) .size) (c .before .before .before .before .before .before .before .before .before .before .before .before .before .before .before .pre .room) (c .before .before .before .before .before .before .before .before .before .before .before .own .ensures) (c .before .before .before .before .before .before .before .before .put-vote .ensures) (c .before .before .before .before .commit-row .ensures) (c .before .before .keep .ensures)
 
 pub send-commit-spec : {M : Type 1} → statement M
 send-commit-spec =
@@ -50,7 +50,7 @@ send-commit-spec =
     cast-keep
     slice-aggregate-keep
     keep-requires
-    add-t20
+    add-t19
     same-length
     same-length-2
     returns)

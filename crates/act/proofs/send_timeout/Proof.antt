@@ -1,5 +1,5 @@
 use mathlib.Core.Path.{refl}
-use Rattle.act.proofs.Types.{draft-typed}
+use Rattle.act.proofs.Types.{draft-typed, view-typed}
 use Rattle.act.proofs.Steps.{ready-facts, ready-regular}
 use Rattle.act.proofs.Sends.{lent-most, timeout-does}
 use borrow.Author.Needs.{needs}
@@ -58,7 +58,7 @@ same-length-2 c = search needs
 returns : tie.Need-returns
 returns c = let a = c .before .before .before .before .before .before .before .before .before .before .before .before .before .before .before .before .before .before .args in
     let R = ready-regular (a .d) _ _ (c .before .before .before .before .before .before .before .before .before .before .before .before .before .before .before .before .before .before .pre) (draft-typed (a .d) (c .before .before .before .before .before .before .before .before .before .before .before .before .before .before .before .before .before .before .good .1 .1 .0)) (λ i. c .before .before .before .before .before .before .before .before .before .before .before .before .before .before .before .before .before .slice-known .given i .fits) in
-    timeout-does (a .d) _ _ (a .view) (c .before .before .before .before .before .before .before .before .before .before .before .before .before .before .before .before .before .before .fits .view .fits) R (c .before .before .before .before .before .before .before .before .before .before .before .before .before .before .before .before .before .before .pre .room) (c .before .before .before .before .before .before .before .before .before .before .before .before .before .before .own .ensures) (c .before .before .before .before .before .before .before .before .before .before .before .own-timeout .ensures) (c .before .before .before .before .before .before .before .before .before .before .put-timeout .ensures) (c .before .before .before .before .before .before .timeout-row .ensures) refl (c .before .before .before .keep .ensures) (c .timing .ensures)
+    timeout-does (a .d) _ _ (a .view .0) (view-typed (a .view) (c .before .before .before .before .before .before .before .before .before .before .before .before .before .before .before .before .before .before .good .1 .1 .1 .0)) R (c .before .before .before .before .before .before .before .before .before .before .before .before .before .before .before .before .before .before .pre .room) (c .before .before .before .before .before .before .before .before .before .before .before .before .before .before .own .ensures) (c .before .before .before .before .before .before .before .before .before .before .before .own-timeout .ensures) (c .before .before .before .before .before .before .before .before .before .before .put-timeout .ensures) (c .before .before .before .before .before .before .timeout-row .ensures) refl (c .before .before .before .keep .ensures) (c .timing .ensures)
 
 pub send-timeout-spec : {M : Type 1} → statement M
 send-timeout-spec =

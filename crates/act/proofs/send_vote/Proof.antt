@@ -32,8 +32,8 @@ keep-requires c κs = let f = ready-facts _ _ _ (c .before .before .before .befo
 voting-requires : tie.Need-voting-requires
 voting-requires c κs = search needs
 
-add-t20 : tie.Need-add-t20
-add-t20 c = omega (arith, c .before .before .before .before .before .before .before .before .before .before .before .before .before .before .before .before .pre .room, c .before .before .before .before .before .before .before .before .before .before .before .before .before .before .before .before .good .1 .0 .0)
+add-t19 : tie.Need-add-t19
+add-t19 c = omega (arith, c .before .before .before .before .before .before .before .before .before .before .before .before .before .before .before .before .pre .room, c .before .before .before .before .before .before .before .before .before .before .before .before .before .before .before .before .good .1 .0 .0)
 
 same-length : tie.Need-same-length
 same-length c = search needs
@@ -42,7 +42,7 @@ same-length-2 : tie.Need-same-length-2
 same-length-2 c = search needs
 
 returns : tie.Need-returns
-returns c = let a = c .before .before .before .before .before .before .before .before .before .before .before .before .before .before .before .before .args in vote-does (a .d) _ _ (a .view) (a .t5) (name-typed (a .t5) (c .before .before .before .before .before .before .before .before .before .before .before .before .before .before .before .before .good .1 .1 .1 .1 .0) .size) (c .before .before .before .before .before .before .before .before .before .before .before .before .before .before .before .before .pre .room) (c .before .before .before .before .before .before .before .before .before .before .before .before .own .ensures) (c .before .before .before .before .before .before .before .before .before .put-vote .ensures) (c .before .before .before .before .before .vote-row .ensures) (c .before .before .before .keep .ensures) (c .voting .ensures)
+returns c = let a = c .before .before .before .before .before .before .before .before .before .before .before .before .before .before .before .before .args in vote-does (a .d) _ _ (a .view .0) (a .t5) (name-typed (a .t5) (c .before .before .before .before .before .before .before .before .before .before .before .before .before .before .before .before .good .1 .1 .1 .1 .0) .size) (c .before .before .before .before .before .before .before .before .before .before .before .before .before .before .before .before .pre .room) (c .before .before .before .before .before .before .before .before .before .before .before .before .own .ensures) (c .before .before .before .before .before .before .before .before .before .put-vote .ensures) (c .before .before .before .before .before .vote-row .ensures) (c .before .before .before .keep .ensures) (c .voting .ensures)
 
 pub send-vote-spec : {M : Type 1} → statement M
 send-vote-spec =
@@ -55,7 +55,7 @@ send-vote-spec =
     slice-aggregate-keep
     keep-requires
     voting-requires
-    add-t20
+    add-t19
     same-length
     same-length-2
     returns)

@@ -9,7 +9,7 @@ use mathlib.Core.Bool.{cond}
 use lib.ListN.{take}
 use Rattle.blocks.specs.Steps.{noVerdicts}
 use Rattle.blocks.proofs.Judging.{none-noted}
-use Rattle.blocks.proofs.Dropping.{Swept, length-lesser, swept-all}
+use Rattle.blocks.proofs.Dropping.{Stored, length-lesser, stored-all}
 use Rattle.blocks.specs.declared.Block.{Block}
 use Rattle.blocks.proofs.Types.{Blockᴿ, Blockᴰ, Verdictsᴰ}
 use Rattle.blocks.proofs.lesser as lesser
@@ -18,9 +18,9 @@ use Rattle.blocks.proofs.lesser.Met as lesser-thm
 use Rattle.blocks.proofs.no_verdicts as no-verdicts
 use Rattle.blocks.proofs.no_verdicts.Symbol as no-verdicts-def
 use Rattle.blocks.proofs.no_verdicts.Met as no-verdicts-thm
-use Rattle.blocks.proofs.sweep as sweep
-use Rattle.blocks.proofs.sweep.Symbol as sweep-def
-use Rattle.blocks.proofs.sweep.Met as sweep-thm
+use Rattle.blocks.proofs.keep_from as keep-from
+use Rattle.blocks.proofs.keep_from.Symbol as keep-from-def
+use Rattle.blocks.proofs.keep_from.Met as keep-from-thm
 use Rattle.blocks.proofs.drop_others.Key.{name as #f}
 use Rattle.blocks.proofs.drop_others as f
 use Rattle.blocks.proofs.drop_others.Statement as stated
@@ -36,12 +36,12 @@ module _ {M : Type 1} (𝓤 : URA M) (H : Heap 𝓤) (A : Atoms 𝓤) (mem : Mem
   abbrev no-verdictsᶜ : Contract 𝓤
   no-verdictsᶜ = tripleOf 𝓤 H A no-verdicts.signature (no-verdicts.spec 𝓤 H A mem run)
 
-  abbrev sweepᶜ : Contract 𝓤
-  sweepᶜ = tripleOf 𝓤 H A sweep.signature (sweep.spec 𝓤 H A mem run)
+  abbrev keep-fromᶜ : Contract 𝓤
+  keep-fromᶜ = tripleOf 𝓤 H A keep-from.signature (keep-from.spec 𝓤 H A mem run)
 
   -- what is known of the callees
   abbrev Known : Calls 𝓤 H → Type 1
-  Known C = Triple 𝓤 (C lesser-def.name) lesserᶜ × (Triple 𝓤 (C no-verdicts-def.name) no-verdictsᶜ × Triple 𝓤 (C sweep-def.name) sweepᶜ)
+  Known C = Triple 𝓤 (C lesser-def.name) lesserᶜ × (Triple 𝓤 (C no-verdicts-def.name) no-verdictsᶜ × Triple 𝓤 (C keep-from-def.name) keep-fromᶜ)
 
 module _ {M : Type 1} (𝓤 : URA M) (H : Heap 𝓤) (A : Atoms 𝓤) (W : Given 𝓤 H A) (mem : Memory → SProp 𝓤) (run : Routine → Fun 𝓤) (κ0 : Lft) (q0 : Share) (ys-b ys-o : ℕ) (ys-γ : GName) (ys : List Block) (count : ℕ) (tip : Block)
     (ys-room : Room Blockᴿ (length ys)) (count-is : Is u64 count ((word .val count) ∷ [])) (tip-is : Is Blockᴿ tip ((Blockᴰ .val tip) ∷ [])) where
@@ -66,11 +66,11 @@ module _ {M : Type 1} (𝓤 : URA M) (H : Heap 𝓤) (A : Atoms 𝓤) (W : Given
       let y0 : lesserᶜ 𝓤 H A mem run .Ghost = ((tt, tt, tt, (count, (ys-n, tt)), ((word .val count) ∷ [], ((word .val ys-n) ∷ [], tt))), tt) in asks ! lesser.ended (lesser.clauses 𝓤 H A mem run) y0 0 (of W word count count-is (of W word ys-n (refl, ys-room .0) end)) refl (id⊢ 𝓤 _) $ calls-at ! fm (lesserᶜ 𝓤 H A mem run) (known .0) y0 (and-then ! (load ! (from ! (stop !)) (look ! 15 refl)) (and-then ! (load ! (from ! (stop !)) (look ! 7 refl)) (no-more !))) (λ w0. came ! lesser.ended (lesser.clauses 𝓤 H A mem run) y0 w0 word 10 refl refl ([]) (λ r ws. r ≡ cond (ltb count ys-n) count ys-n) (λ r ws. id⊢ 𝓤 _) (λ r0 ws0 is0 e0.
       -- call 1: `blocks::no_verdicts`
       let y1 : no-verdictsᶜ 𝓤 H A mem run .Ghost = ((tt, tt, tt, tt, tt), tt) in asks ! no-verdicts.ended (no-verdicts.clauses 𝓤 H A mem run) y1 0 end refl (id⊢ 𝓤 _) $ calls-at ! fm (no-verdictsᶜ 𝓤 H A mem run) (known .1 .0) y1 (no-more !) (λ w1. came ! no-verdicts.ended (no-verdicts.clauses 𝓤 H A mem run) y1 w1 Verdictsᴰ 8 refl refl ([]) (λ r ws. r ≡ noVerdicts) (λ r ws. id⊢ 𝓤 _) (λ r1 ws1 is1 e1. assigns ! (addr ! (from ! (fld ! refl (hop ! (look-in ! 16 (sub ! 0 refl (whole !))) (stop !))))) (from ! (stop !)) (init ! 4 refl (tt, tt)) $ assigns ! (agg ! (and-then ! (load ! (from ! (stop !)) (look ! 4 refl)) (and-then ! (load ! (from ! (fld ! refl (stop !))) (look-in ! 16 (sub ! 1 refl (whole !)))) (no-more !)))) (from ! (stop !)) (init ! 2 refl (tt, (tt, (record { fits = ys-room .0 }, tt)))) $
-      -- call 2: `blocks::sweep`
+      -- call 2: `blocks::keep_from`
       lend-mut ! tt Blockᴿ ys-b ys-o ys-n ys refl (λ ν2-0 δ2-0.
-      let y2 : sweepᶜ 𝓤 H A mem run .Ghost = ((((ν2-0 ∷ []), tt), (fullShare, tt), tt, (lying Blockᴿ ys-b ys-o δ2-0 ys, (count, (tip, (0, (r0, (0, (r1, tt))))))), (ys-s ∷ [], ((word .val count) ∷ [], ((Blockᴰ .val tip) ∷ [], ((word .val 0) ∷ [], ((word .val r0) ∷ [], ((word .val 0) ∷ [], ((Verdictsᴰ .val r1) ∷ [], tt)))))))), tt) in asks ! sweep.ended (sweep.clauses 𝓤 H A mem run) y2 2 (held (of W word count count-is (of W Blockᴰ tip tip-is (of W word 0 (refl, lit< tt) (of W word r0 is0 (of W word 0 (refl, lit< tt) (of W Verdictsᴰ r1 is1 end))))))) refl (so 𝓤 (omega (arith, e0 ∙ sym (length-lesser count ys)), (omega arith, none-noted tip (take count ys) r1 e1))) $ calls-at ! fm (sweepᶜ 𝓤 H A mem run) (known .1 .1) y2 (and-then ! (load ! (from ! (stop !)) (look ! 2 refl)) (and-then ! (load ! (from ! (stop !)) (look ! 14 refl)) (and-then ! (load ! (from ! (stop !)) (look ! 12 refl)) (and-then ! (lit ! tt) (and-then ! (load ! (from ! (stop !)) (look ! 10 refl)) (and-then ! (lit ! tt) (and-then ! (load ! (from ! (stop !)) (look ! 8 refl)) (no-more !)))))))) (λ w2. came ! sweep.ended (sweep.clauses 𝓤 H A mem run) y2 w2 word 17 refl refl (true ∷ false ∷ false ∷ false ∷ false ∷ false ∷ false ∷ []) (λ r ws. Swept tip (take count ys) ys 0 0 r (ws .0)) (λ r ws. id⊢ 𝓤 _) (λ r2 ws2 is2 e2. back-again ! tt Blockᴿ ys-b ys-o ys-n ys (ws2 .0) ys-room refl (λ l2-0.
+      let y2 : keep-fromᶜ 𝓤 H A mem run .Ghost = ((((ν2-0 ∷ []), tt), (fullShare, tt), tt, (lying Blockᴿ ys-b ys-o δ2-0 ys, (count, (tip, (0, (r0, (0, (r1, tt))))))), (ys-s ∷ [], ((word .val count) ∷ [], ((Blockᴰ .val tip) ∷ [], ((word .val 0) ∷ [], ((word .val r0) ∷ [], ((word .val 0) ∷ [], ((Verdictsᴰ .val r1) ∷ [], tt)))))))), tt) in asks ! keep-from.ended (keep-from.clauses 𝓤 H A mem run) y2 2 (held (of W word count count-is (of W Blockᴰ tip tip-is (of W word 0 (refl, lit< tt) (of W word r0 is0 (of W word 0 (refl, lit< tt) (of W Verdictsᴰ r1 is1 end))))))) refl (so 𝓤 (omega (arith, e0 ∙ sym (length-lesser count ys)), (omega arith, none-noted tip (take count ys) r1 e1))) $ calls-at ! fm (keep-fromᶜ 𝓤 H A mem run) (known .1 .1) y2 (and-then ! (load ! (from ! (stop !)) (look ! 2 refl)) (and-then ! (load ! (from ! (stop !)) (look ! 14 refl)) (and-then ! (load ! (from ! (stop !)) (look ! 12 refl)) (and-then ! (lit ! tt) (and-then ! (load ! (from ! (stop !)) (look ! 10 refl)) (and-then ! (lit ! tt) (and-then ! (load ! (from ! (stop !)) (look ! 8 refl)) (no-more !)))))))) (λ w2. came ! keep-from.ended (keep-from.clauses 𝓤 H A mem run) y2 w2 word 17 refl refl (true ∷ false ∷ false ∷ false ∷ false ∷ false ∷ false ∷ []) (λ r ws. Stored tip (take count ys) ys 0 0 r (ws .0)) (λ r ws. id⊢ 𝓤 _) (λ r2 ws2 is2 e2. back-again ! tt Blockᴿ ys-b ys-o ys-n ys (ws2 .0) ys-room refl (λ l2-0.
       -- the exit
-      returns ! (look ! 18 refl) $ leave ! 2 (full _ ∷ full _ ∷ full _ ∷ full _ ∷ full _ ∷ full _ ∷ full _ ∷ full _ ∷ full _ ∷ []) refl $ keep ! (1 ∷ 0 ∷ []) $ ends W f.ended stayed (f.clauses 𝓤 H A mem run) y (word .val r2) r2 ((ws2 .0), (tt, (tt, tt))) (l2-0, (tt, (tt, tt))) (word .makes 𝓤 H A W r2 _ is2) (so 𝓤 (swept-all tip count ys r2 _ e2)) (held (made (id⊢ 𝓤 _) (made (id⊢ 𝓤 _) end))))))))))))))))))))
+      returns ! (look ! 18 refl) $ leave ! 2 (full _ ∷ full _ ∷ full _ ∷ full _ ∷ full _ ∷ full _ ∷ full _ ∷ full _ ∷ full _ ∷ []) refl $ keep ! (1 ∷ 0 ∷ []) $ ends W f.ended stayed (f.clauses 𝓤 H A mem run) y (word .val r2) r2 ((ws2 .0), (tt, (tt, tt))) (l2-0, (tt, (tt, tt))) (word .makes 𝓤 H A W r2 _ is2) (so 𝓤 (stored-all tip count ys r2 _ e2)) (held (made (id⊢ 𝓤 _) (made (id⊢ 𝓤 _) end))))))))))))))))))))
 
 module _ {M : Type 1} (𝓤 : URA M) (H : Heap 𝓤) (A : Atoms 𝓤) (W : Given 𝓤 H A) (mem : Memory → SProp 𝓤) (run : Routine → Fun 𝓤) where
   goes : AllGo 𝓤 H A W 1 (f.signature .params) (f.ended .kept) stayed
@@ -89,4 +89,4 @@ drop-others-spec 𝓤 H 𝓜 𝓖 𝓡 =
     entered 𝓤 H (tripleOf 𝓤 H (𝓖 .A) f.signature (f.spec 𝓤 H (𝓖 .A) (𝓜 .mem) (𝓡 .run)))
     (tables 𝓤 H 𝓜 𝓡 code.env .C) (tables 𝓤 H 𝓜 𝓡 code.env .Λ) #f code.function (code.unfolded 𝓤 H 𝓜 𝓡)
     (meets 𝓤 H (𝓖 .A) (givenOf 𝓤 H 𝓜 𝓖) (𝓜 .mem) (𝓡 .run) (tablesOf 𝓤 H 𝓜 (tables 𝓤 H 𝓜 𝓡 code.env))
-    (cited 𝓤 H (lesserᶜ 𝓤 H (𝓖 .A) (𝓜 .mem) (𝓡 .run)) 𝓜 𝓡 code.env lesser-def.name lesser-def.routine code.calls-blocks·lesser (lesser-thm.met 𝓤 H 𝓜 𝓖 𝓡), (cited 𝓤 H (no-verdictsᶜ 𝓤 H (𝓖 .A) (𝓜 .mem) (𝓡 .run)) 𝓜 𝓡 code.env no-verdicts-def.name no-verdicts-def.routine code.calls-blocks·no-verdicts (no-verdicts-thm.met 𝓤 H 𝓜 𝓖 𝓡), cited 𝓤 H (sweepᶜ 𝓤 H (𝓖 .A) (𝓜 .mem) (𝓡 .run)) 𝓜 𝓡 code.env sweep-def.name sweep-def.routine code.calls-blocks·sweep (sweep-thm.met 𝓤 H 𝓜 𝓖 𝓡))))
+    (cited 𝓤 H (lesserᶜ 𝓤 H (𝓖 .A) (𝓜 .mem) (𝓡 .run)) 𝓜 𝓡 code.env lesser-def.name lesser-def.routine code.calls-blocks·lesser (lesser-thm.met 𝓤 H 𝓜 𝓖 𝓡), (cited 𝓤 H (no-verdictsᶜ 𝓤 H (𝓖 .A) (𝓜 .mem) (𝓡 .run)) 𝓜 𝓡 code.env no-verdicts-def.name no-verdicts-def.routine code.calls-blocks·no-verdicts (no-verdicts-thm.met 𝓤 H 𝓜 𝓖 𝓡), cited 𝓤 H (keep-fromᶜ 𝓤 H (𝓖 .A) (𝓜 .mem) (𝓡 .run)) 𝓜 𝓡 code.env keep-from-def.name keep-from-def.routine code.calls-blocks·keep-from (keep-from-thm.met 𝓤 H 𝓜 𝓖 𝓡))))

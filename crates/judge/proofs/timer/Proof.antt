@@ -21,4 +21,9 @@ unfolding timerRules
 returns-2 c = λ s e. two-second _ _ _ (sym (c .before .before .regions .ensures s e) ∙ c .before .if1 .left) (c .timer-number .ensures)
 
 pub timer-spec : {M : Type 1} → statement M
-timer-spec = tie.close (tie.spec regions-requires returns timer-number-requires returns-2)
+timer-spec = tie.close
+    (tie.spec
+    regions-requires
+    returns
+    timer-number-requires
+    returns-2)

@@ -17,10 +17,10 @@ ends-requires : tie.Need-ends-requires
 ends-requires c κs = search needs
 
 returns : tie.Need-returns
-returns c = performs-refused (timerNumber _ (c .before .before .before .before .before .args .view)) (onTimer (c .before .before .before .before .before .args .view)) (TimerJudged _ (c .before .before .before .before .before .args .view) (c .before .before .before .before .before .args .number)) (c .before .before .before .before .before .args .number) (c .before .before .refused .ensures) (ended (c .before .before .refused .ensures) (c .before .ends .ensures) (c .if1 .taken)) (λ s g. g)
+returns c = performs-refused (timerNumber _ (c .before .before .before .before .before .args .view .0)) (onTimer (c .before .before .before .before .before .args .view .0)) (TimerJudged _ (c .before .before .before .before .before .args .view .0) (c .before .before .before .before .before .args .number)) (c .before .before .before .before .before .args .number) (c .before .before .refused .ensures) (ended (c .before .before .refused .ensures) (c .before .ends .ensures) (c .if1 .taken)) (λ s g. g)
 
 timer-accepted-requires : tie.Need-timer-accepted-requires
-timer-accepted-requires c κs = timer-passed (c .before .before .before .before .before .before .before .args .c) _ _ (c .before .before .before .before .before .before .before .args .view) (c .before .before .before .before .before .before .before .args .number) (c .before .before .before .before .before .before .before .pre) (went-on (c .before .before .before .before .refused .ensures) (c .before .before .before .ends .ensures) (c .before .before .if1 .left))
+timer-accepted-requires c κs = timer-passed (c .before .before .before .before .before .before .before .args .c) _ _ (c .before .before .before .before .before .before .before .args .view .0) (c .before .before .before .before .before .before .before .args .number) (c .before .before .before .before .before .before .before .pre) (went-on (c .before .before .before .before .refused .ensures) (c .before .before .before .ends .ensures) (c .before .before .if1 .left))
 
 same-length : tie.Need-same-length
 same-length c = search needs
@@ -29,9 +29,16 @@ same-length-2 : tie.Need-same-length-2
 same-length-2 c = search needs
 
 returns-2 : tie.Need-returns-2
-returns-2 c = performs-completed (timerNumber _ (c .before .before .before .before .before .before .before .before .before .before .before .before .args .view)) (onTimer (c .before .before .before .before .before .before .before .before .before .before .before .before .args .view)) (TimerJudged _ (c .before .before .before .before .before .before .before .before .before .before .before .before .args .view) (c .before .before .before .before .before .before .before .before .before .before .before .before .args .number)) (completes-given (onTimer (c .before .before .before .before .before .before .before .before .before .before .before .before .args .view)) Always _ (λ s g. tt) (c .before .before .before .before .timer-accepted .ensures)) (λ s g. sym (went-on (c .before .before .before .before .before .before .before .before .before .refused .ensures) (c .before .before .before .before .before .before .before .before .ends .ensures) (c .before .before .before .before .before .before .before .if1 .left)) ∙ g)
+returns-2 c = performs-completed (timerNumber _ (c .before .before .before .before .before .before .before .before .before .before .before .before .args .view .0)) (onTimer (c .before .before .before .before .before .before .before .before .before .before .before .before .args .view .0)) (TimerJudged _ (c .before .before .before .before .before .before .before .before .before .before .before .before .args .view .0) (c .before .before .before .before .before .before .before .before .before .before .before .before .args .number)) (completes-given (onTimer (c .before .before .before .before .before .before .before .before .before .before .before .before .args .view .0)) Always _ (λ s g. tt) (c .before .before .before .before .timer-accepted .ensures)) (λ s g. sym (went-on (c .before .before .before .before .before .before .before .before .before .refused .ensures) (c .before .before .before .before .before .before .before .before .ends .ensures) (c .before .before .before .before .before .before .before .if1 .left)) ∙ g)
 
 pub timer-spec : {M : Type 1} → statement M
 timer-spec =
     tie.close
-    (tie.spec refused-requires ends-requires returns timer-accepted-requires same-length same-length-2 returns-2)
+    (tie.spec
+    refused-requires
+    ends-requires
+    returns
+    timer-accepted-requires
+    same-length
+    same-length-2
+    returns-2)

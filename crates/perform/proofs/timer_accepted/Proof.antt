@@ -1,5 +1,5 @@
 use Rattle.protocol.specs.Events.{onTimer}
-use Rattle.act.proofs.Types.{draft-typed}
+use Rattle.act.proofs.Types.{draft-typed, view-typed}
 use Rattle.act.proofs.Steps.{ready-less}
 use Rattle.event.specs.Event.{Always}
 use Rattle.perform.proofs.Completing.{timer-ready, completes}
@@ -14,7 +14,7 @@ on-timer-requires : tie.Need-on-timer-requires
 on-timer-requires c κs = ready-less _ _ _ _ _ (omega arith) (c .before .before .before .before .pre)
 
 finish-requires : tie.Need-finish-requires
-finish-requires c κs = timer-ready (c .before .before .before .before .before .before .before .before .before .before .before .args .d) _ _ (c .before .before .before .before .before .before .before .before .before .before .before .args .view) (c .before .before .before .before .before .before .before .before .before .before .before .good .1 .1 .1 .0 .1) (draft-typed (c .before .before .before .before .before .before .before .before .before .before .before .args .d) (c .before .before .before .before .before .before .before .before .before .before .before .good .1 .1 .0)) (λ j. c .before .before .before .before .before .before .before .before .before .before .slice-known .given j .fits) (c .before .before .before .before .before .before .before .before .before .before .before .pre) (c .before .before .before .before .before .before .on-timer .ensures)
+finish-requires c κs = timer-ready (c .before .before .before .before .before .before .before .before .before .before .before .args .d) _ _ (c .before .before .before .before .before .before .before .before .before .before .before .args .view .0) (view-typed (c .before .before .before .before .before .before .before .before .before .before .before .args .view) (c .before .before .before .before .before .before .before .before .before .before .before .good .1 .1 .1 .0)) (draft-typed (c .before .before .before .before .before .before .before .before .before .before .before .args .d) (c .before .before .before .before .before .before .before .before .before .before .before .good .1 .1 .0)) (λ j. c .before .before .before .before .before .before .before .before .before .before .slice-known .given j .fits) (c .before .before .before .before .before .before .before .before .before .before .before .pre) (c .before .before .before .before .before .before .on-timer .ensures)
 
 same-length : tie.Need-same-length
 same-length c = search needs
@@ -23,8 +23,14 @@ same-length-2 : tie.Need-same-length-2
 same-length-2 c = search needs
 
 returns : tie.Need-returns
-returns c = completes (onTimer (c .before .before .before .before .before .before .before .before .before .before .before .before .before .before .before .before .args .view)) Always (c .before .before .before .before .before .before .before .before .before .before .before .on-timer .ensures) (c .before .before .before .before .finish .ensures)
+returns c = completes (onTimer (c .before .before .before .before .before .before .before .before .before .before .before .before .before .before .before .before .args .view .0)) Always (c .before .before .before .before .before .before .before .before .before .before .before .on-timer .ensures) (c .before .before .before .before .finish .ensures)
 
 pub timer-accepted-spec : {M : Type 1} → statement M
 timer-accepted-spec =
-    tie.close (tie.spec on-timer-requires finish-requires same-length same-length-2 returns)
+    tie.close
+    (tie.spec
+    on-timer-requires
+    finish-requires
+    same-length
+    same-length-2
+    returns)

@@ -71,7 +71,7 @@ module _ {M : Type 1} (𝓤 : URA M) (H : Heap 𝓤) (A : Atoms 𝓤) (mem : Mem
   Known C = Triple 𝓤 (C pass-views-def.name) pass-viewsᶜ × (Triple 𝓤 (C look-at-def.name) look-atᶜ × (Triple 𝓤 (C held-def.name) heldᶜ × (Triple 𝓤 (C entries-below-def.name) entries-belowᶜ × (Triple 𝓤 (C descends-def.name) descendsᶜ × Triple 𝓤 (C next-step-def.name) next-stepᶜ))))
 
 module _ {M : Type 1} (𝓤 : URA M) (H : Heap 𝓤) (A : Atoms 𝓤) (W : Given 𝓤 H A) (mem : Memory → SProp 𝓤) (run : Routine → Fun 𝓤) (κ0 κ1 : Lft) (q0 q1 : Share) (m-b m-o : ℕ) (m-γ : GName) (m : List ℕ) (ys-b ys-o : ℕ) (ys-γ : GName) (ys : List Block) (tip : Block) (p : Place)
-    (m-room : Room u8 (length m)) (ys-room : Room Blockᴿ (length ys)) (tip-is : Is Blockᴿ tip ((Blockᴰ .val tip) ∷ [])) (p-is : Is Placeᴿ p ((Placeᴰ .val p) ∷ [])) (asked : (memoryLength ≤ length m) × ((replicas (settingsOf m) ≤ largest) × (p .view + p .views < 2 ^ 63))) where
+    (m-room : Room u8 (length m)) (ys-room : Room Blockᴿ (length ys)) (tip-is : Is Blockᴿ tip ((Blockᴰ .val tip) ∷ [])) (p-is : Is Placeᴿ p ((Placeᴰ .val p) ∷ [])) (asked : (memoryLength ≤ length m) × ((replicas (settingsOf m) ≤ largest) × (p .view .0 + p .views < 2 ^ 63))) where
   abbrev m-n : ℕ
   m-n = length m
 
@@ -145,7 +145,7 @@ module _ {M : Type 1} (𝓤 : URA M) (H : Heap 𝓤) (A : Atoms 𝓤) (W : Given
       let κs = y .0 .0 in let qs = y .0 .1 in let a = y .0 .3 in
       walk-meets-at 𝓤 H A f.ended stayed W goes (f.clauses 𝓤 H A mem run) (WpFn 𝓤 H (𝓣 .C) (𝓣 .Λ) code.target-from-function) (WpFn-mono 𝓤 H (W .laws) 𝓣 code.target-from-function) y
       (walked-at 𝓤 H A f.ended stayed (f.clauses 𝓤 H A mem run) (WpFn 𝓤 H (𝓣 .C) (𝓣 .Λ) code.target-from-function) y (slice-vals, (slice-vals, ((λ x. Blockᴰ .val x ∷ []), ((λ x. Placeᴰ .val x ∷ []), tt)))) (shr-slice-tells (named 0) (κs .0) u8, (shr-slice-tells (named 1) (κs .1 .0) Blockᴿ, (Blockᴰ .tells, (Placeᴰ .tells, tt))))
-      (λ are. needs 𝓤 ((memoryLength ≤ length (a .0 .now)) × ((replicas (settingsOf (a .0 .now)) ≤ largest) × ((a .1 .1 .1 .0) .view + (a .1 .1 .1 .0) .views < 2 ^ 63))) _ (λ asked. walk 𝓤 H A W mem run (κs .0) (κs .1 .0) (qs .0) (qs .1 .0) (a .0 .ptr .0) (a .0 .ptr .1) (a .0 .name) (a .0 .now) (a .1 .0 .ptr .0) (a .1 .0 .ptr .1) (a .1 .0 .name) (a .1 .0 .now) (a .1 .1 .0) (a .1 .1 .1 .0) (are .0 .0 .1) (are .1 .0 .0 .1) (are .1 .1 .0) (are .1 .1 .1 .0) asked (𝓣 .C) (𝓣 .Λ) (fmOf 𝓤 H (W .laws) 𝓣) known self)))
+      (λ are. needs 𝓤 ((memoryLength ≤ length (a .0 .now)) × ((replicas (settingsOf (a .0 .now)) ≤ largest) × ((a .1 .1 .1 .0) .view .0 + (a .1 .1 .1 .0) .views < 2 ^ 63))) _ (λ asked. walk 𝓤 H A W mem run (κs .0) (κs .1 .0) (qs .0) (qs .1 .0) (a .0 .ptr .0) (a .0 .ptr .1) (a .0 .name) (a .0 .now) (a .1 .0 .ptr .0) (a .1 .0 .ptr .1) (a .1 .0 .name) (a .1 .0 .now) (a .1 .1 .0) (a .1 .1 .1 .0) (are .0 .0 .1) (are .1 .0 .0 .1) (are .1 .1 .0) (are .1 .1 .1 .0) asked (𝓣 .C) (𝓣 .Λ) (fmOf 𝓤 H (W .laws) 𝓣) known self)))
 
 pub +target-from-spec : {M : Type 1} → cycle.statement M
 unfolding code.target-from-routine tablesOf

@@ -17,18 +17,26 @@ n-requires c κs = search needs
 add-t4 : tie.Need-add-t4
 add-t4 c = search needs
 
-sub-t7 : tie.Need-sub-t7
-sub-t7 c = search needs
-
-add-t8 : tie.Need-add-t8
-add-t8 c = search needs
+sub-t8 : tie.Need-sub-t8
+sub-t8 c = search needs
 
 add-t9 : tie.Need-add-t9
 add-t9 c = search needs
+
+add-t10 : tie.Need-add-t10
+add-t10 c = search needs
 
 returns : tie.Need-returns
 returns c = rw (c .before .before .n .ensures, c .before .before .before .settings .ensures) refl
 
 pub at-next-view-spec : {M : Type 1} → statement M
 at-next-view-spec =
-    tie.close (tie.spec settings-requires n-requires add-t4 sub-t7 add-t8 add-t9 returns)
+    tie.close
+    (tie.spec
+    settings-requires
+    n-requires
+    add-t4
+    sub-t8
+    add-t9
+    add-t10
+    returns)

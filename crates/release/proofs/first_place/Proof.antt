@@ -29,15 +29,15 @@ sub-views-after c = search needs
 views-after-requires : tie.Need-views-after-requires
 views-after-requires c κs = search needs
 
+add-t11 : tie.Need-add-t11
+add-t11 c = search needs
+
 add-t12 : tie.Need-add-t12
 add-t12 c = search needs
 
-add-t13 : tie.Need-add-t13
-add-t13 c = search needs
-
 returns : tie.Need-returns
 unfolding firstPlace
-returns c = rw (c .views-after .ensures, c .before .highest .ensures, c .before .before .lowest .ensures, c .before .before .before .n .ensures, c .before .before .before .before .settings .ensures)
+returns c = rw (c .views-after .ensures, ← c .before .before .before .highest .ensures, ← c .before .before .before .before .lowest .ensures, c .before .before .before .before .before .n .ensures, c .before .before .before .before .before .before .settings .ensures)
 
 pub first-place-spec : {M : Type 1} → statement M
 first-place-spec =
@@ -49,6 +49,6 @@ first-place-spec =
     highest-requires
     sub-views-after
     views-after-requires
+    add-t11
     add-t12
-    add-t13
     returns)

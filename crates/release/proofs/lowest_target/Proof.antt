@@ -71,7 +71,7 @@ module _ {M : Type 1} (𝓤 : URA M) (H : Heap 𝓤) (A : Atoms 𝓤) (W : Given
       let y0 : first-placeᶜ 𝓤 H A mem run .Ghost = (((κ0, tt), (q0, tt), tt, (lying u8 m-b m-o m-γ m, (v, tt)), (m-s ∷ [], ((Viewᴰ .val v) ∷ [], tt))), tt) in move ! (4 ∷ 0 ∷ []) $ asks ! first-place.ended (first-place.clauses 𝓤 H A mem run) y0 2 (held (of W Viewᴰ v v-is end)) refl (so 𝓤 (asked .0, (bounded (standing (knownBy v tip) m ys) (asked .1) .few, (bounded (standing (knownBy v tip) m ys) (asked .1) .view-first, bounded (standing (knownBy v tip) m ys) (asked .1) .view-last)))) $ calls-at ! fm (first-placeᶜ 𝓤 H A mem run) (known .0) y0 (and-then ! (load ! (from ! (stop !)) (look ! 12 refl)) (and-then ! (load ! (from ! (stop !)) (look ! 8 refl)) (no-more !))) (λ w0. came ! first-place.ended (first-place.clauses 𝓤 H A mem run) y0 w0 Placeᴰ 3 refl refl ([]) (λ r ws. r ≡ firstPlace (v .0) m) (λ r ws. id⊢ 𝓤 _) (λ r0 ws0 is0 e0.
       -- call 1: `release::target_from`
       move ! (1 ∷ []) $ use1 W (‵ (Shr u8 κ0 m-b m-o m-γ m-n m) ⊛ ‵ (Shr u8 κ0 m-b m-o m-γ m-n m)) (shr-slice-copy 𝓤 H A W (named 0) κ0 u8 .twice (lying u8 m-b m-o m-γ m) (m-s ∷ [])) $ split ! $ move ! (3 ∷ []) $ use1 W (‵ (Shr Blockᴿ κ1 ys-b ys-o ys-γ ys-n ys) ⊛ ‵ (Shr Blockᴿ κ1 ys-b ys-o ys-γ ys-n ys)) (shr-slice-copy 𝓤 H A W (named 0) κ1 Blockᴿ .twice (lying Blockᴿ ys-b ys-o ys-γ ys) (ys-s ∷ [])) $ split ! $
-      let y1 : target-fromᶜ 𝓤 H A mem run .Ghost = (((κ0, (κ1, tt)), (q0, (q1, tt)), tt, (lying u8 m-b m-o m-γ m, (lying Blockᴿ ys-b ys-o ys-γ ys, (tip, (r0, tt)))), (m-s ∷ [], (ys-s ∷ [], ((Blockᴰ .val tip) ∷ [], ((Placeᴰ .val r0) ∷ [], tt))))), tt) in move ! (4 ∷ 5 ∷ 2 ∷ 0 ∷ []) $ asks ! target-from.ended (target-from.clauses 𝓤 H A mem run) y1 4 (held (held (of W Blockᴰ tip tip-is (of W Placeᴰ r0 is0 end)))) refl (so 𝓤 (asked .0, (bounded (standing (knownBy v tip) m ys) (asked .1) .few, subst (λ (z : Place). z .view + z .views < 2 ^ 63) (sym e0) (first-within (v .0) m (bounded (standing (knownBy v tip) m ys) (asked .1) .view-last))))) $ calls-at ! fm (target-fromᶜ 𝓤 H A mem run) (known .1) y1 (and-then ! (load ! (from ! (stop !)) (look ! 11 refl)) (and-then ! (load ! (from ! (stop !)) (look ! 9 refl)) (and-then ! (load ! (from ! (stop !)) (look ! 5 refl)) (and-then ! (load ! (from ! (stop !)) (look ! 3 refl)) (no-more !))))) (λ w1. came ! target-from.ended (target-from.clauses 𝓤 H A mem run) y1 w1 Targetᴰ 12 refl refl ([]) (λ r ws. r ≡ targetFrom r0 (seen tip m ys)) (λ r ws. id⊢ 𝓤 _) (λ r1 ws1 is1 e1.
+      let y1 : target-fromᶜ 𝓤 H A mem run .Ghost = (((κ0, (κ1, tt)), (q0, (q1, tt)), tt, (lying u8 m-b m-o m-γ m, (lying Blockᴿ ys-b ys-o ys-γ ys, (tip, (r0, tt)))), (m-s ∷ [], (ys-s ∷ [], ((Blockᴰ .val tip) ∷ [], ((Placeᴰ .val r0) ∷ [], tt))))), tt) in move ! (4 ∷ 5 ∷ 2 ∷ 0 ∷ []) $ asks ! target-from.ended (target-from.clauses 𝓤 H A mem run) y1 4 (held (held (of W Blockᴰ tip tip-is (of W Placeᴰ r0 is0 end)))) refl (so 𝓤 (asked .0, (bounded (standing (knownBy v tip) m ys) (asked .1) .few, subst (λ (z : Place). z .view .0 + z .views < 2 ^ 63) (sym e0) (first-within (v .0) m (bounded (standing (knownBy v tip) m ys) (asked .1) .view-last))))) $ calls-at ! fm (target-fromᶜ 𝓤 H A mem run) (known .1) y1 (and-then ! (load ! (from ! (stop !)) (look ! 11 refl)) (and-then ! (load ! (from ! (stop !)) (look ! 9 refl)) (and-then ! (load ! (from ! (stop !)) (look ! 5 refl)) (and-then ! (load ! (from ! (stop !)) (look ! 3 refl)) (no-more !))))) (λ w1. came ! target-from.ended (target-from.clauses 𝓤 H A mem run) y1 w1 Targetᴰ 12 refl refl ([]) (λ r ws. r ≡ targetFrom r0 (seen tip m ys)) (λ r ws. id⊢ 𝓤 _) (λ r1 ws1 is1 e1.
       -- the exit
       returns ! (look ! 14 refl) $ leave ! 4 (full _ ∷ full _ ∷ full _ ∷ full _ ∷ full _ ∷ full _ ∷ []) refl $ keep ! (0 ∷ 1 ∷ []) $ ends W f.ended stayed (f.clauses 𝓤 H A mem run) y (Targetᴰ .val r1) r1 (tt, (tt, (tt, (tt, tt)))) (tt, (tt, (tt, (tt, tt)))) (Targetᴰ .makes 𝓤 H A W r1 _ is1) (so 𝓤 (e1 ∙ ap (λ (z : Place). targetFrom z (seen tip m ys)) e0 ∙ sym (from-seen (firstPlace (v .0) m) (knownBy v tip) m ys) ∙ begins (standing (knownBy v tip) m ys) (bounded (standing (knownBy v tip) m ys) (asked .1) .few) (bounded (standing (knownBy v tip) m ys) (asked .1) .view-first) (bounded (standing (knownBy v tip) m ys) (asked .1) .view-last))) (made (id⊢ 𝓤 _) (made (id⊢ 𝓤 _) (made (id⊢ 𝓤 _) (made (id⊢ 𝓤 _) end))))))))))))))
 

@@ -15,16 +15,22 @@ returns : tie.Need-returns
 unfolding nextName
 returns c = rw (c .before .if1 .taken, c .next-view .ensures)
 
-sub-t8 : tie.Need-sub-t8
-sub-t8 c = search needs
+sub-t9 : tie.Need-sub-t9
+sub-t9 c = search needs
 
 no-target-requires : tie.Need-no-target-requires
 no-target-requires c κs = search needs
 
 returns-2 : tie.Need-returns-2
 unfolding nextName
-returns-2 c = rw (c .before .before .before .if1 .left, c .no-target .ensures)
+returns-2 c = rw (c .before .before .before .before .if1 .left, c .no-target .ensures)
 
 pub next-name-spec : {M : Type 1} → statement M
 next-name-spec =
-    tie.close (tie.spec next-view-requires returns sub-t8 no-target-requires returns-2)
+    tie.close
+    (tie.spec
+    next-view-requires
+    returns
+    sub-t9
+    no-target-requires
+    returns-2)

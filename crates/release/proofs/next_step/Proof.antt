@@ -41,7 +41,7 @@ returns-4 c = let e : c .before .before .before .before .before .before .before 
 
 returns-5 : tie.Need-returns-5
 unfolding stepOf
-returns-5 c = let e : c .before .before .before .before .before .before .before .before .args .l .some ≡ true = not-false _ (c .before .before .before .before .before .before .if1 .left) in let g : c .before .before .before .before .before .before .before .before .args .b .is ≡ true = not-false _ (c .before .before .if3 .left) in let h : c .before .before .before .before .before .before .before .before .args .down ≡ true = not-false _ (c .before .if4 .left) in rw (e, lt-ltb 0 (c .before .before .before .before .before .before .before .before .args .p .tries) (omega (arith, c .before .before .before .before .if2 .left)), g, h)
+returns-5 c = let e : c .before .before .before .before .before .before .before .before .before .args .l .some ≡ true = not-false _ (c .before .before .before .before .before .before .before .if1 .left) in let g : c .before .before .before .before .before .before .before .before .before .args .b .is ≡ true = not-false _ (c .before .before .before .if3 .left) in let h : c .before .before .before .before .before .before .before .before .before .args .down ≡ true = not-false _ (c .before .before .if4 .left) in rw (e, lt-ltb 0 (c .before .before .before .before .before .before .before .before .before .args .p .tries) (omega (arith, c .before .before .before .before .before .if2 .left)), g, h)
 
 pub next-step-spec : {M : Type 1} → statement M
 next-step-spec =

@@ -14,8 +14,8 @@ no-target-requires c κs = search needs
 add-t6 : tie.Need-add-t6
 add-t6 c = search needs
 
-sub-t8 : tie.Need-sub-t8
-sub-t8 c = search needs
+sub-t9 : tie.Need-sub-t9
+sub-t9 c = search needs
 
 returns : tie.Need-returns
 unfolding nextView
@@ -26,4 +26,10 @@ unfolding nextView
 returns-2 c = rw (c .before .before .no-target .ensures, le-ltb _ _ (c .if1 .left))
 
 pub next-view-spec : {M : Type 1} → statement M
-next-view-spec = tie.close (tie.spec no-target-requires add-t6 sub-t8 returns returns-2)
+next-view-spec = tie.close
+    (tie.spec
+    no-target-requires
+    add-t6
+    sub-t9
+    returns
+    returns-2)

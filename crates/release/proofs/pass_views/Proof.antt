@@ -14,7 +14,7 @@ use Rattle.release.proofs.at_next_view.Reads as at-next-view-reads
 use Rattle.release.proofs.decides_nothing.Reads as decides-nothing-reads
 
 abbrev Inv-loop : tie.InvT-loop
-Inv-loop mem p₀ p = (p .view + p .views < 2 ^ 63) × (passed mem p ≡ passed mem p₀)
+Inv-loop mem p₀ p = (p .view .0 + p .views < 2 ^ 63) × (passed mem p ≡ passed mem p₀)
 
 abbrev μ-loop : tie.MeasureT-loop
 μ-loop mem p₀ p = p .views
@@ -41,7 +41,7 @@ loop-again c =
     let e = c .at-next-view .ensures in
     let more : 1 ≤ l .p .views = omega (arith, c .before .before .before .if1 .taken) in
     let few = sym (c .before .before .decides-nothing .ensures) ∙ not-false _ (c .before .if2 .left) in
-    (omega (arith, l .inv .0, more, ap (λ (z : Place). z .view) e, ap (λ (z : Place). z .views) e), ap (λ (z : Place). passed (a .mem .now) z) e ∙ pass-on (a .mem .now) (l .p) more few ∙ l .inv .1)
+    (omega (arith, l .inv .0, more, ap (λ (z : Place). z .view .0) e, ap (λ (z : Place). z .views) e), ap (λ (z : Place). passed (a .mem .now) z) e ∙ pass-on (a .mem .now) (l .p) more few ∙ l .inv .1)
 
 returns-2 : tie.Need-returns-2 Inv-loop μ-loop
 returns-2 c = pass-end _ (c .before .before .loop .p) (omega (arith, c .if1 .left)) ∙ c .before .before .loop .inv .1

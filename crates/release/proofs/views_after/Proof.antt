@@ -12,7 +12,7 @@ use Rattle.release.proofs.views_after.Lts as lts
 use Rattle.release.proofs.decides_nothing.Reads as decides-nothing-reads
 
 abbrev Inv-loop : tie.InvT-loop
-Inv-loop mem first most k₀ k = (k ≤ most) × (viewsAfter mem first k ≡ viewsAfter mem first most)
+Inv-loop mem first most k₀ k = (k ≤ most) × (viewsAfter mem (first .0) k ≡ viewsAfter mem (first .0) most)
 
 abbrev μ-loop : tie.MeasureT-loop
 μ-loop mem first most k₀ k = k
@@ -20,14 +20,14 @@ abbrev μ-loop : tie.MeasureT-loop
 loop-holds : tie.Need-loop-holds Inv-loop μ-loop
 loop-holds c = (omega arith, refl)
 
-add-decides-nothing : tie.Need-add-decides-nothing Inv-loop μ-loop
-add-decides-nothing c = search needs
+add-t6 : tie.Need-add-t6 Inv-loop μ-loop
+add-t6 c = search needs
 
 decides-nothing-requires : tie.Need-decides-nothing-requires Inv-loop μ-loop
-decides-nothing-requires c κs = (c .before .before .before .pre .0, c .before .before .before .pre .1 .0)
+decides-nothing-requires c κs = (c .before .before .before .before .pre .0, c .before .before .before .before .pre .1 .0)
 
 returns : tie.Need-returns Inv-loop μ-loop
-returns c = let l = c .before .before .before .loop in after-stop _ _ (l .k) (omega (arith, c .before .before .loop-test .taken)) (sym (c .before .decides-nothing .ensures) ∙ not-true _ (c .if1 .taken)) ∙ l .inv .1
+returns c = let l = c .before .before .before .before .loop in after-stop _ _ (l .k) (omega (arith, c .before .before .before .loop-test .taken)) (sym (c .before .decides-nothing .ensures) ∙ not-true _ (c .if1 .taken)) ∙ l .inv .1
 
 sub-k : tie.Need-sub-k Inv-loop μ-loop
 sub-k c = search needs
@@ -36,7 +36,7 @@ loop-less : tie.Need-loop-less Inv-loop μ-loop
 loop-less c = search needs
 
 loop-again : tie.Need-loop-again Inv-loop μ-loop
-loop-again c = let l = c .before .before .before .loop in (omega arith, sym (after-on _ _ (l .k) (omega arith) (sym (c .before .decides-nothing .ensures) ∙ not-false _ (c .if1 .left))) ∙ l .inv .1)
+loop-again c = let l = c .before .before .before .before .loop in (omega arith, sym (after-on _ _ (l .k) (omega arith) (sym (c .before .decides-nothing .ensures) ∙ not-false _ (c .if1 .left))) ∙ l .inv .1)
 
 returns-2 : tie.Need-returns-2 Inv-loop μ-loop
 returns-2 c = let l = c .before .loop in after-end _ _ (l .k) (omega arith) ∙ l .inv .1
@@ -48,7 +48,7 @@ views-after-spec =
     Inv-loop
     μ-loop
     loop-holds
-    add-decides-nothing
+    add-t6
     decides-nothing-requires
     returns
     sub-k

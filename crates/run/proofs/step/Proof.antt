@@ -17,6 +17,7 @@ use Rattle.blocks.specs.declared.Block.{Block}
 use Rattle.counters.proofs.Types.{Countersᴿ}
 use Rattle.blocks.proofs.Types.{Blockᴿ}
 use Rattle.run.proofs.Types.{Requestᴰ, Request-ended, Request-answer, Request-timer, Request-view, Request-propose, Request-name, Request-record, Request-length}
+use Rattle.counters.proofs.Types.{Viewᵀ, Viewᴰ}
 use Rattle.replica.proofs.Types.{Nameᵀ, Nameᴰ}
 use Rattle.run.proofs.next_request as next-request
 use Rattle.run.proofs.next_request.Symbol as next-request-def
@@ -30,9 +31,9 @@ use Rattle.run.proofs.propose_call.Met as propose-call-thm
 use Rattle.run.proofs.record_call as record-call
 use Rattle.run.proofs.record_call.Symbol as record-call-def
 use Rattle.run.proofs.record_call.Met as record-call-thm
-use Rattle.run.proofs.tell as tell
-use Rattle.run.proofs.tell.Symbol as tell-def
-use Rattle.run.proofs.tell.Met as tell-thm
+use Rattle.run.proofs.report_call as report-call
+use Rattle.run.proofs.report_call.Symbol as report-call-def
+use Rattle.run.proofs.report_call.Met as report-call-thm
 use Rattle.run.proofs.step.Key.{name as #f}
 use Rattle.run.proofs.step as f
 use Rattle.run.proofs.step.Statement as stated
@@ -54,12 +55,12 @@ module _ {M : Type 1} (𝓤 : URA M) (H : Heap 𝓤) (A : Atoms 𝓤) (mem : Mem
   abbrev record-callᶜ : Contract 𝓤
   record-callᶜ = tripleOf 𝓤 H A record-call.signature (record-call.spec 𝓤 H A mem run)
 
-  abbrev tellᶜ : Contract 𝓤
-  tellᶜ = tripleOf 𝓤 H A tell.signature (tell.spec 𝓤 H A mem run)
+  abbrev report-callᶜ : Contract 𝓤
+  report-callᶜ = tripleOf 𝓤 H A report-call.signature (report-call.spec 𝓤 H A mem run)
 
   -- what is known of the callees
   abbrev Known : Calls 𝓤 H → Type 1
-  Known C = Triple 𝓤 (C next-request-def.name) next-requestᶜ × (Triple 𝓤 (C timer-call-def.name) timer-callᶜ × (Triple 𝓤 (C propose-call-def.name) propose-callᶜ × (Triple 𝓤 (C record-call-def.name) record-callᶜ × Triple 𝓤 (C tell-def.name) tellᶜ)))
+  Known C = Triple 𝓤 (C next-request-def.name) next-requestᶜ × (Triple 𝓤 (C timer-call-def.name) timer-callᶜ × (Triple 𝓤 (C propose-call-def.name) propose-callᶜ × (Triple 𝓤 (C record-call-def.name) record-callᶜ × Triple 𝓤 (C report-call-def.name) report-callᶜ)))
 
 module _ {M : Type 1} (𝓤 : URA M) (H : Heap 𝓤) (A : Atoms 𝓤) (W : Given 𝓤 H A) (mem : Memory → SProp 𝓤) (run : Routine → Fun 𝓤) (κ0 κ1 κ2 κ3 κ4 : Lft) (q0 q1 q2 q3 q4 : Share) (cs-b cs-o : ℕ) (cs-γ : GName) (cs : Counters) (m-b m-o : ℕ) (m-γ : GName) (m : List ℕ) (ys-b ys-o : ℕ) (ys-γ : GName) (ys : List Block) (out-b out-o : ℕ) (out-γ : GName) (out : List ℕ) (rec-b rec-o : ℕ) (rec-γ : GName) (rec : List ℕ) (k : ℕ)
     (m-room : Room u8 (length m)) (ys-room : Room Blockᴿ (length ys)) (out-room : Room u8 (length out)) (rec-room : Room u8 (length rec)) (k-is : Is u64 k ((word .val k) ∷ [])) where
@@ -103,18 +104,18 @@ module _ {M : Type 1} (𝓤 : URA M) (H : Heap 𝓤) (A : Atoms 𝓤) (W : Given
       let y0 : next-requestᶜ 𝓤 H A mem run .Ghost = ((((ν0-0 ∷ []), tt), (fullShare, tt), tt, (lying u8 rec-b rec-o δ0-0 rec, (k, tt)), (rec-s ∷ [], ((word .val k) ∷ [], tt))), tt) in asks ! next-request.ended (next-request.clauses 𝓤 H A mem run) y0 2 (held (of W word k k-is end)) refl (id⊢ 𝓤 _) $ calls-at ! fm (next-requestᶜ 𝓤 H A mem run) (known .0) y0 (and-then ! (load ! (from ! (stop !)) (look ! 58 refl)) (and-then ! (load ! (from ! (stop !)) (look ! 70 refl)) (no-more !))) (λ w0. came ! next-request.ended (next-request.clauses 𝓤 H A mem run) y0 w0 Requestᴰ 67 refl refl (true ∷ false ∷ []) (λ r ws. Unit {0}) (λ r ws. so 𝓤 tt) (λ r0 ws0 is0 e0. back-again ! tt u8 rec-b rec-o rec-n rec (ws0 .0) rec-room refl (λ l0-0. assigns ! (addr ! (from ! (hop ! (look ! 80 refl) (stop !)))) (from ! (stop !)) (init ! 56 refl (tt, tt)) $ assigns ! (addr ! (from ! (fld ! refl (hop ! (look-in ! 78 (sub ! 0 refl (whole !))) (stop !))))) (from ! (stop !)) (init ! 54 refl (tt, tt)) $ assigns ! (agg ! (and-then ! (load ! (from ! (stop !)) (look ! 54 refl)) (and-then ! (load ! (from ! (fld ! refl (stop !))) (look-in ! 78 (sub ! 1 refl (whole !)))) (no-more !)))) (from ! (stop !)) (init ! 52 refl (tt, (tt, (record { fits = m-room .0 }, tt)))) $ assigns ! (addr ! (from ! (fld ! refl (hop ! (look-in ! 76 (sub ! 0 refl (whole !))) (stop !))))) (from ! (stop !)) (init ! 50 refl (tt, tt)) $ assigns ! (agg ! (and-then ! (load ! (from ! (stop !)) (look ! 50 refl)) (and-then ! (load ! (from ! (fld ! refl (stop !))) (look-in ! 76 (sub ! 1 refl (whole !)))) (no-more !)))) (from ! (stop !)) (init ! 48 refl (tt, (tt, (record { fits = ys-room .0 }, tt)))) $ assigns ! (addr ! (from ! (fld ! refl (hop ! (look-in ! 74 (sub ! 0 refl (whole !))) (stop !))))) (from ! (stop !)) (init ! 46 refl (tt, tt)) $ assigns ! (agg ! (and-then ! (load ! (from ! (stop !)) (look ! 46 refl)) (and-then ! (load ! (from ! (fld ! refl (stop !))) (look-in ! 74 (sub ! 1 refl (whole !)))) (no-more !)))) (from ! (stop !)) (init ! 44 refl (tt, (tt, (record { fits = out-room .0 }, tt)))) $
       -- call 1: `run::timer_call`
       move ! (5 ∷ 9 ∷ []) $ lend-ref ! tt Countersᴿ cs-b cs-o cs (λ ν1-0 δ1-0. move ! (7 ∷ 10 ∷ []) $ lend-mut ! tt u8 m-b m-o m-n m refl (λ ν1-1 δ1-1. move ! (9 ∷ 11 ∷ []) $ lend-mut ! tt Blockᴿ ys-b ys-o ys-n ys refl (λ ν1-2 δ1-2. move ! (11 ∷ 12 ∷ []) $ lend-mut ! tt u8 out-b out-o out-n out refl (λ ν1-3 δ1-3.
-      let y1 : timer-callᶜ 𝓤 H A mem run .Ghost = ((((ν1-0 ∷ []), ((ν1-1 ∷ []), ((ν1-2 ∷ []), ((ν1-3 ∷ []), tt)))), (fullShare, (fullShare, (fullShare, (fullShare, tt)))), tt, (pointing Countersᴿ cs-b cs-o δ1-0 cs, (lying u8 m-b m-o δ1-1 m, (lying Blockᴿ ys-b ys-o δ1-2 ys, (lying u8 out-b out-o δ1-3 out, ((r0 .timer), ((r0 .view), ((r0 .answer), tt))))))), (vptr cs-b cs-o ∷ [], (m-s ∷ [], (ys-s ∷ [], (out-s ∷ [], ((flag .val (r0 .timer)) ∷ [], ((word .val (r0 .view)) ∷ [], ((word .val (r0 .answer)) ∷ [], tt)))))))), tt) in move ! (9 ∷ 6 ∷ 3 ∷ 0 ∷ 10 ∷ 7 ∷ 4 ∷ 1 ∷ []) $ asks ! timer-call.ended (timer-call.clauses 𝓤 H A mem run) y1 8 (held (held (held (held (of W flag (r0 .timer) (Request-timer r0 is0) (of W word (r0 .view) (Request-view r0 is0) (of W word (r0 .answer) (Request-answer r0 is0) end))))))) refl (id⊢ 𝓤 _) $ calls-at ! fm (timer-callᶜ 𝓤 H A mem run) (known .1 .0) y1 (and-then ! (load ! (from ! (stop !)) (look ! 53 refl)) (and-then ! (load ! (from ! (stop !)) (look ! 49 refl)) (and-then ! (load ! (from ! (stop !)) (look ! 45 refl)) (and-then ! (load ! (from ! (stop !)) (look ! 41 refl)) (and-then ! (load ! (from ! (fld ! {τ = tyBool} {d = 16} refl (stop !))) (look-in ! 65 {τ = tyBool} (sub ! 2 {τ = tyBool} {d = 16} refl (whole !)))) (and-then ! (load ! (from ! (fld ! {τ = tyInt w64} {d = 24} refl (stop !))) (look-in ! 65 {τ = tyInt w64} (sub ! 3 {τ = tyInt w64} {d = 24} refl (whole !)))) (and-then ! (load ! (from ! (fld ! {τ = tyInt w64} {d = 8} refl (stop !))) (look-in ! 65 {τ = tyInt w64} (sub ! 1 {τ = tyInt w64} {d = 8} refl (whole !)))) (no-more !)))))))) (λ w1. came ! timer-call.ended (timer-call.clauses 𝓤 H A mem run) y1 w1 word 62 refl refl (true ∷ true ∷ true ∷ true ∷ false ∷ false ∷ false ∷ []) (λ r ws. Asked (r0 .timer) (r0 .answer) r (lentTo cs m ys) (lentTo (ws .0) (ws .1 .0) (ws .1 .1 .0)) out (ws .1 .1 .1 .0) (timerCall (lentTo cs m ys) out (r0 .view))) (λ r ws. id⊢ 𝓤 _) (λ r1 ws1 is1 e1. move ! (0 ∷ 4 ∷ 11 ∷ []) $ back-ref ! tt Countersᴿ cs-b cs-o cs (ws1 .0) $ move ! (2 ∷ 5 ∷ 10 ∷ []) $ back-again ! tt u8 m-b m-o m-n m (ws1 .1 .0) m-room refl (λ l1-1. move ! (4 ∷ 6 ∷ 9 ∷ []) $ back-again ! tt Blockᴿ ys-b ys-o ys-n ys (ws1 .1 .1 .0) ys-room refl (λ l1-2. move ! (6 ∷ 7 ∷ 8 ∷ []) $ back-again ! tt u8 out-b out-o out-n out (ws1 .1 .1 .1 .0) out-room refl (λ l1-3. assigns ! (addr ! (from ! (hop ! (look ! 80 refl) (stop !)))) (from ! (stop !)) (init ! 42 refl (tt, tt)) $ assigns ! (addr ! (from ! (fld ! refl (hop ! (look-in ! 78 (sub ! 0 refl (whole !))) (stop !))))) (from ! (stop !)) (init ! 40 refl (tt, tt)) $ assigns ! (agg ! (and-then ! (load ! (from ! (stop !)) (look ! 40 refl)) (and-then ! (load ! (from ! (fld ! refl (stop !))) (look-in ! 78 (sub ! 1 refl (whole !)))) (no-more !)))) (from ! (stop !)) (init ! 38 refl (tt, (tt, (record { fits = m-room .0 }, tt)))) $ assigns ! (addr ! (from ! (fld ! refl (hop ! (look-in ! 76 (sub ! 0 refl (whole !))) (stop !))))) (from ! (stop !)) (init ! 36 refl (tt, tt)) $ assigns ! (agg ! (and-then ! (load ! (from ! (stop !)) (look ! 36 refl)) (and-then ! (load ! (from ! (fld ! refl (stop !))) (look-in ! 76 (sub ! 1 refl (whole !)))) (no-more !)))) (from ! (stop !)) (init ! 34 refl (tt, (tt, (record { fits = ys-room .0 }, tt)))) $ assigns ! (addr ! (from ! (fld ! refl (hop ! (look-in ! 74 (sub ! 0 refl (whole !))) (stop !))))) (from ! (stop !)) (init ! 32 refl (tt, tt)) $ assigns ! (agg ! (and-then ! (load ! (from ! (stop !)) (look ! 32 refl)) (and-then ! (load ! (from ! (fld ! refl (stop !))) (look-in ! 74 (sub ! 1 refl (whole !)))) (no-more !)))) (from ! (stop !)) (init ! 30 refl (tt, (tt, (record { fits = out-room .0 }, tt)))) $
+      let y1 : timer-callᶜ 𝓤 H A mem run .Ghost = ((((ν1-0 ∷ []), ((ν1-1 ∷ []), ((ν1-2 ∷ []), ((ν1-3 ∷ []), tt)))), (fullShare, (fullShare, (fullShare, (fullShare, tt)))), tt, (pointing Countersᴿ cs-b cs-o δ1-0 cs, (lying u8 m-b m-o δ1-1 m, (lying Blockᴿ ys-b ys-o δ1-2 ys, (lying u8 out-b out-o δ1-3 out, ((r0 .timer), ((r0 .view), ((r0 .answer), tt))))))), (vptr cs-b cs-o ∷ [], (m-s ∷ [], (ys-s ∷ [], (out-s ∷ [], ((flag .val (r0 .timer)) ∷ [], ((Viewᴰ .val (r0 .view)) ∷ [], ((word .val (r0 .answer)) ∷ [], tt)))))))), tt) in move ! (9 ∷ 6 ∷ 3 ∷ 0 ∷ 10 ∷ 7 ∷ 4 ∷ 1 ∷ []) $ asks ! timer-call.ended (timer-call.clauses 𝓤 H A mem run) y1 8 (held (held (held (held (of W flag (r0 .timer) (Request-timer r0 is0) (of W Viewᴰ (r0 .view) (Request-view r0 is0) (of W word (r0 .answer) (Request-answer r0 is0) end))))))) refl (id⊢ 𝓤 _) $ calls-at ! fm (timer-callᶜ 𝓤 H A mem run) (known .1 .0) y1 (and-then ! (load ! (from ! (stop !)) (look ! 53 refl)) (and-then ! (load ! (from ! (stop !)) (look ! 49 refl)) (and-then ! (load ! (from ! (stop !)) (look ! 45 refl)) (and-then ! (load ! (from ! (stop !)) (look ! 41 refl)) (and-then ! (load ! (from ! (fld ! {τ = tyBool} {d = 16} refl (stop !))) (look-in ! 65 {τ = tyBool} (sub ! 2 {τ = tyBool} {d = 16} refl (whole !)))) (and-then ! (load ! (from ! (fld ! {τ = Viewᵀ} {d = 24} refl (stop !))) (look-in ! 65 {τ = Viewᵀ} (sub ! 3 {τ = Viewᵀ} {d = 24} refl (whole !)))) (and-then ! (load ! (from ! (fld ! {τ = tyInt w64} {d = 8} refl (stop !))) (look-in ! 65 {τ = tyInt w64} (sub ! 1 {τ = tyInt w64} {d = 8} refl (whole !)))) (no-more !)))))))) (λ w1. came ! timer-call.ended (timer-call.clauses 𝓤 H A mem run) y1 w1 word 62 refl refl (true ∷ true ∷ true ∷ true ∷ false ∷ false ∷ false ∷ []) (λ r ws. Asked (r0 .timer) (r0 .answer) r (lentTo cs m ys) (lentTo (ws .0) (ws .1 .0) (ws .1 .1 .0)) out (ws .1 .1 .1 .0) (timerCall (lentTo cs m ys) out ((r0 .view) .0))) (λ r ws. id⊢ 𝓤 _) (λ r1 ws1 is1 e1. move ! (0 ∷ 4 ∷ 11 ∷ []) $ back-ref ! tt Countersᴿ cs-b cs-o cs (ws1 .0) $ move ! (2 ∷ 5 ∷ 10 ∷ []) $ back-again ! tt u8 m-b m-o m-n m (ws1 .1 .0) m-room refl (λ l1-1. move ! (4 ∷ 6 ∷ 9 ∷ []) $ back-again ! tt Blockᴿ ys-b ys-o ys-n ys (ws1 .1 .1 .0) ys-room refl (λ l1-2. move ! (6 ∷ 7 ∷ 8 ∷ []) $ back-again ! tt u8 out-b out-o out-n out (ws1 .1 .1 .1 .0) out-room refl (λ l1-3. assigns ! (addr ! (from ! (hop ! (look ! 80 refl) (stop !)))) (from ! (stop !)) (init ! 42 refl (tt, tt)) $ assigns ! (addr ! (from ! (fld ! refl (hop ! (look-in ! 78 (sub ! 0 refl (whole !))) (stop !))))) (from ! (stop !)) (init ! 40 refl (tt, tt)) $ assigns ! (agg ! (and-then ! (load ! (from ! (stop !)) (look ! 40 refl)) (and-then ! (load ! (from ! (fld ! refl (stop !))) (look-in ! 78 (sub ! 1 refl (whole !)))) (no-more !)))) (from ! (stop !)) (init ! 38 refl (tt, (tt, (record { fits = m-room .0 }, tt)))) $ assigns ! (addr ! (from ! (fld ! refl (hop ! (look-in ! 76 (sub ! 0 refl (whole !))) (stop !))))) (from ! (stop !)) (init ! 36 refl (tt, tt)) $ assigns ! (agg ! (and-then ! (load ! (from ! (stop !)) (look ! 36 refl)) (and-then ! (load ! (from ! (fld ! refl (stop !))) (look-in ! 76 (sub ! 1 refl (whole !)))) (no-more !)))) (from ! (stop !)) (init ! 34 refl (tt, (tt, (record { fits = ys-room .0 }, tt)))) $ assigns ! (addr ! (from ! (fld ! refl (hop ! (look-in ! 74 (sub ! 0 refl (whole !))) (stop !))))) (from ! (stop !)) (init ! 32 refl (tt, tt)) $ assigns ! (agg ! (and-then ! (load ! (from ! (stop !)) (look ! 32 refl)) (and-then ! (load ! (from ! (fld ! refl (stop !))) (look-in ! 74 (sub ! 1 refl (whole !)))) (no-more !)))) (from ! (stop !)) (init ! 30 refl (tt, (tt, (record { fits = out-room .0 }, tt)))) $
       -- call 2: `run::propose_call`
       move ! (6 ∷ 7 ∷ []) $ lend-ref ! tt Countersᴿ cs-b cs-o (ws1 .0) (λ ν2-0 δ2-0. move ! (7 ∷ 8 ∷ []) $ lend-mut ! tt u8 m-b m-o m-n (ws1 .1 .0) l1-1 (λ ν2-1 δ2-1. move ! (8 ∷ 9 ∷ []) $ lend-mut ! tt Blockᴿ ys-b ys-o ys-n (ws1 .1 .1 .0) l1-2 (λ ν2-2 δ2-2. move ! (9 ∷ 10 ∷ []) $ lend-mut ! tt u8 out-b out-o out-n (ws1 .1 .1 .1 .0) l1-3 (λ ν2-3 δ2-3.
       let y2 : propose-callᶜ 𝓤 H A mem run .Ghost = ((((ν2-0 ∷ []), ((ν2-1 ∷ []), ((ν2-2 ∷ []), ((ν2-3 ∷ []), tt)))), (fullShare, (fullShare, (fullShare, (fullShare, tt)))), tt, (pointing Countersᴿ cs-b cs-o δ2-0 (ws1 .0), (lying u8 m-b m-o δ2-1 (ws1 .1 .0), (lying Blockᴿ ys-b ys-o δ2-2 (ws1 .1 .1 .0), (lying u8 out-b out-o δ2-3 (ws1 .1 .1 .1 .0), ((r0 .propose), ((r0 .name), (r1, tt))))))), (vptr cs-b cs-o ∷ [], (m-s ∷ [], (ys-s ∷ [], (out-s ∷ [], ((flag .val (r0 .propose)) ∷ [], ((Nameᴰ .val (r0 .name)) ∷ [], ((word .val r1) ∷ [], tt)))))))), tt) in move ! (9 ∷ 6 ∷ 3 ∷ 0 ∷ 10 ∷ 7 ∷ 4 ∷ 1 ∷ []) $ asks ! propose-call.ended (propose-call.clauses 𝓤 H A mem run) y2 8 (held (held (held (held (of W flag (r0 .propose) (Request-propose r0 is0) (of W Nameᴰ (r0 .name) (Request-name r0 is0) (of W word r1 is1 end))))))) refl (id⊢ 𝓤 _) $ calls-at ! fm (propose-callᶜ 𝓤 H A mem run) (known .1 .1 .0) y2 (and-then ! (load ! (from ! (stop !)) (look ! 39 refl)) (and-then ! (load ! (from ! (stop !)) (look ! 35 refl)) (and-then ! (load ! (from ! (stop !)) (look ! 31 refl)) (and-then ! (load ! (from ! (stop !)) (look ! 27 refl)) (and-then ! (load ! (from ! (fld ! {τ = tyBool} {d = 32} refl (stop !))) (look-in ! 65 {τ = tyBool} (sub ! 4 {τ = tyBool} {d = 32} refl (whole !)))) (and-then ! (load ! (from ! (fld ! {τ = Nameᵀ} {d = 33} refl (stop !))) (look-in ! 65 {τ = Nameᵀ} (sub ! 5 {τ = Nameᵀ} {d = 33} refl (whole !)))) (and-then ! (load ! (from ! (stop !)) (look ! 63 refl)) (no-more !)))))))) (λ w2. came ! propose-call.ended (propose-call.clauses 𝓤 H A mem run) y2 w2 word 60 refl refl (true ∷ true ∷ true ∷ true ∷ false ∷ false ∷ false ∷ []) (λ r ws. Asked (r0 .propose) r1 r (lentTo (ws1 .0) (ws1 .1 .0) (ws1 .1 .1 .0)) (lentTo (ws .0) (ws .1 .0) (ws .1 .1 .0)) (ws1 .1 .1 .1 .0) (ws .1 .1 .1 .0) (proposeCall (lentTo (ws1 .0) (ws1 .1 .0) (ws1 .1 .1 .0)) (ws1 .1 .1 .1 .0) ((r0 .name) .bytes))) (λ r ws. id⊢ 𝓤 _) (λ r2 ws2 is2 e2. move ! (0 ∷ 4 ∷ 11 ∷ []) $ back-ref ! tt Countersᴿ cs-b cs-o (ws1 .0) (ws2 .0) $ move ! (2 ∷ 5 ∷ 10 ∷ []) $ back-again ! tt u8 m-b m-o m-n (ws1 .1 .0) (ws2 .1 .0) m-room l1-1 (λ l2-1. move ! (4 ∷ 6 ∷ 9 ∷ []) $ back-again ! tt Blockᴿ ys-b ys-o ys-n (ws1 .1 .1 .0) (ws2 .1 .1 .0) ys-room l1-2 (λ l2-2. move ! (6 ∷ 7 ∷ 8 ∷ []) $ back-again ! tt u8 out-b out-o out-n (ws1 .1 .1 .1 .0) (ws2 .1 .1 .1 .0) out-room l1-3 (λ l2-3. assigns ! (addr ! (from ! (hop ! (look ! 80 refl) (stop !)))) (from ! (stop !)) (init ! 28 refl (tt, tt)) $ assigns ! (addr ! (from ! (fld ! refl (hop ! (look-in ! 78 (sub ! 0 refl (whole !))) (stop !))))) (from ! (stop !)) (init ! 26 refl (tt, tt)) $ assigns ! (agg ! (and-then ! (load ! (from ! (stop !)) (look ! 26 refl)) (and-then ! (load ! (from ! (fld ! refl (stop !))) (look-in ! 78 (sub ! 1 refl (whole !)))) (no-more !)))) (from ! (stop !)) (init ! 24 refl (tt, (tt, (record { fits = m-room .0 }, tt)))) $ assigns ! (addr ! (from ! (fld ! refl (hop ! (look-in ! 76 (sub ! 0 refl (whole !))) (stop !))))) (from ! (stop !)) (init ! 22 refl (tt, tt)) $ assigns ! (agg ! (and-then ! (load ! (from ! (stop !)) (look ! 22 refl)) (and-then ! (load ! (from ! (fld ! refl (stop !))) (look-in ! 76 (sub ! 1 refl (whole !)))) (no-more !)))) (from ! (stop !)) (init ! 20 refl (tt, (tt, (record { fits = ys-room .0 }, tt)))) $ assigns ! (addr ! (from ! (fld ! refl (hop ! (look-in ! 74 (sub ! 0 refl (whole !))) (stop !))))) (from ! (stop !)) (init ! 18 refl (tt, tt)) $ assigns ! (agg ! (and-then ! (load ! (from ! (stop !)) (look ! 18 refl)) (and-then ! (load ! (from ! (fld ! refl (stop !))) (look-in ! 74 (sub ! 1 refl (whole !)))) (no-more !)))) (from ! (stop !)) (init ! 16 refl (tt, (tt, (record { fits = out-room .0 }, tt)))) $ assigns ! (addr ! (from ! (fld ! refl (hop ! (look-in ! 72 (sub ! 0 refl (whole !))) (stop !))))) (from ! (stop !)) (init ! 14 refl (tt, tt)) $ assigns ! (agg ! (and-then ! (load ! (from ! (stop !)) (look ! 14 refl)) (and-then ! (load ! (from ! (fld ! refl (stop !))) (look-in ! 72 (sub ! 1 refl (whole !)))) (no-more !)))) (from ! (stop !)) (init ! 12 refl (tt, (tt, (record { fits = rec-room .0 }, tt)))) $
       -- call 3: `run::record_call`
       move ! (6 ∷ 7 ∷ []) $ lend-ref ! tt Countersᴿ cs-b cs-o (ws2 .0) (λ ν3-0 δ3-0. move ! (7 ∷ 8 ∷ []) $ lend-mut ! tt u8 m-b m-o m-n (ws2 .1 .0) l2-1 (λ ν3-1 δ3-1. move ! (8 ∷ 9 ∷ []) $ lend-mut ! tt Blockᴿ ys-b ys-o ys-n (ws2 .1 .1 .0) l2-2 (λ ν3-2 δ3-2. move ! (9 ∷ 10 ∷ []) $ lend-mut ! tt u8 out-b out-o out-n (ws2 .1 .1 .1 .0) l2-3 (λ ν3-3 δ3-3. move ! (12 ∷ 13 ∷ []) $ lend-shr ! tt u8 rec-b rec-o rec-n (ws0 .0) rec-room l0-0 (λ ν3-4 δ3-4.
       let y3 : record-callᶜ 𝓤 H A mem run .Ghost = ((((ν3-0 ∷ []), ((ν3-1 ∷ []), ((ν3-2 ∷ []), ((ν3-3 ∷ []), ((ν3-4 ∷ []), tt))))), (fullShare, (fullShare, (fullShare, (fullShare, (fullShare, tt))))), tt, (pointing Countersᴿ cs-b cs-o δ3-0 (ws2 .0), (lying u8 m-b m-o δ3-1 (ws2 .1 .0), (lying Blockᴿ ys-b ys-o δ3-2 (ws2 .1 .1 .0), (lying u8 out-b out-o δ3-3 (ws2 .1 .1 .1 .0), (lying u8 rec-b rec-o δ3-4 (ws0 .0), ((r0 .record), ((r0 .length), (r2, tt)))))))), (vptr cs-b cs-o ∷ [], (m-s ∷ [], (ys-s ∷ [], (out-s ∷ [], (rec-s ∷ [], ((flag .val (r0 .record)) ∷ [], ((word .val (r0 .length)) ∷ [], ((word .val r2) ∷ [], tt))))))))), tt) in move ! (12 ∷ 9 ∷ 6 ∷ 3 ∷ 0 ∷ 13 ∷ 10 ∷ 7 ∷ 4 ∷ 1 ∷ []) $ asks ! record-call.ended (record-call.clauses 𝓤 H A mem run) y3 10 (held (held (held (held (held (of W flag (r0 .record) (Request-record r0 is0) (of W word (r0 .length) (Request-length r0 is0) (of W word r2 is2 end)))))))) refl (id⊢ 𝓤 _) $ calls-at ! fm (record-callᶜ 𝓤 H A mem run) (known .1 .1 .1 .0) y3 (and-then ! (load ! (from ! (stop !)) (look ! 24 refl)) (and-then ! (load ! (from ! (stop !)) (look ! 20 refl)) (and-then ! (load ! (from ! (stop !)) (look ! 16 refl)) (and-then ! (load ! (from ! (stop !)) (look ! 12 refl)) (and-then ! (load ! (from ! (stop !)) (look ! 8 refl)) (and-then ! (load ! (from ! (fld ! {τ = tyBool} {d = 65} refl (stop !))) (look-in ! 64 {τ = tyBool} (sub ! 6 {τ = tyBool} {d = 65} refl (whole !)))) (and-then ! (load ! (from ! (fld ! {τ = tyInt w64} {d = 72} refl (stop !))) (look-in ! 64 {τ = tyInt w64} (sub ! 7 {τ = tyInt w64} {d = 72} refl (whole !)))) (and-then ! (load ! (from ! (stop !)) (look ! 60 refl)) (no-more !))))))))) (λ w3. came ! record-call.ended (record-call.clauses 𝓤 H A mem run) y3 w3 word 57 refl refl (true ∷ true ∷ true ∷ true ∷ false ∷ false ∷ false ∷ false ∷ []) (λ r ws. Asked (r0 .record) r2 r (lentTo (ws2 .0) (ws2 .1 .0) (ws2 .1 .1 .0)) (lentTo (ws .0) (ws .1 .0) (ws .1 .1 .0)) (ws2 .1 .1 .1 .0) (ws .1 .1 .1 .0) (recordCall (lentTo (ws2 .0) (ws2 .1 .0) (ws2 .1 .1 .0)) (ws2 .1 .1 .1 .0) (take (r0 .length) (ws0 .0)))) (λ r ws. id⊢ 𝓤 _) (λ r3 ws3 is3 e3. move ! (0 ∷ 5 ∷ 13 ∷ []) $ back-ref ! tt Countersᴿ cs-b cs-o (ws2 .0) (ws3 .0) $ move ! (2 ∷ 6 ∷ 12 ∷ []) $ back-again ! tt u8 m-b m-o m-n (ws2 .1 .0) (ws3 .1 .0) m-room l2-1 (λ l3-1. move ! (4 ∷ 7 ∷ 11 ∷ []) $ back-again ! tt Blockᴿ ys-b ys-o ys-n (ws2 .1 .1 .0) (ws3 .1 .1 .0) ys-room l2-2 (λ l3-2. move ! (6 ∷ 8 ∷ 10 ∷ []) $ back-again ! tt u8 out-b out-o out-n (ws2 .1 .1 .1 .0) (ws3 .1 .1 .1 .0) out-room l2-3 (λ l3-3. move ! (8 ∷ 9 ∷ []) $ back-shr ! tt u8 rec-b rec-o rec-n (ws0 .0) rec-room l0-0 $ assigns ! (addr ! (from ! (hop ! (look ! 80 refl) (stop !)))) (from ! (stop !)) (init ! 10 refl (tt, tt)) $
-      -- call 4: `run::tell`
+      -- call 4: `run::report_call`
       move ! (8 ∷ 9 ∷ []) $ lend-ref ! tt Countersᴿ cs-b cs-o (ws3 .0) (λ ν4-0 δ4-0.
-      let y4 : tellᶜ 𝓤 H A mem run .Ghost = ((((ν4-0 ∷ []), tt), (fullShare, tt), tt, (pointing Countersᴿ cs-b cs-o δ4-0 (ws3 .0), ((r0 .ended), (r3, (k, tt)))), (vptr cs-b cs-o ∷ [], ((flag .val (r0 .ended)) ∷ [], ((word .val r3) ∷ [], ((word .val k) ∷ [], tt))))), tt) in asks ! tell.ended (tell.clauses 𝓤 H A mem run) y4 2 (held (of W flag (r0 .ended) (Request-ended r0 is0) (of W word r3 is3 (of W word k k-is end)))) refl (id⊢ 𝓤 _) $ calls-at ! fm (tellᶜ 𝓤 H A mem run) (known .1 .1 .1 .1) y4 (and-then ! (load ! (from ! (stop !)) (look ! 10 refl)) (and-then ! (load ! (from ! (fld ! {τ = tyBool} {d = 0} refl (stop !))) (look-in ! 68 {τ = tyBool} (sub ! 0 {τ = tyBool} {d = 0} refl (whole !)))) (and-then ! (load ! (from ! (stop !)) (look ! 62 refl)) (and-then ! (load ! (from ! (stop !)) (look ! 70 refl)) (no-more !))))) (λ w4. came ! tell.ended (tell.clauses 𝓤 H A mem run) y4 w4 word 81 refl refl (true ∷ false ∷ false ∷ false ∷ []) (λ r ws. (ws .0) ≡ (ws3 .0)) (λ r ws. id⊢ 𝓤 _) (λ r4 ws4 is4 e4. back-ref ! tt Countersᴿ cs-b cs-o (ws3 .0) (ws4 .0) $
+      let y4 : report-callᶜ 𝓤 H A mem run .Ghost = ((((ν4-0 ∷ []), tt), (fullShare, tt), tt, (pointing Countersᴿ cs-b cs-o δ4-0 (ws3 .0), ((r0 .ended), (r3, (k, tt)))), (vptr cs-b cs-o ∷ [], ((flag .val (r0 .ended)) ∷ [], ((word .val r3) ∷ [], ((word .val k) ∷ [], tt))))), tt) in asks ! report-call.ended (report-call.clauses 𝓤 H A mem run) y4 2 (held (of W flag (r0 .ended) (Request-ended r0 is0) (of W word r3 is3 (of W word k k-is end)))) refl (id⊢ 𝓤 _) $ calls-at ! fm (report-callᶜ 𝓤 H A mem run) (known .1 .1 .1 .1) y4 (and-then ! (load ! (from ! (stop !)) (look ! 10 refl)) (and-then ! (load ! (from ! (fld ! {τ = tyBool} {d = 0} refl (stop !))) (look-in ! 68 {τ = tyBool} (sub ! 0 {τ = tyBool} {d = 0} refl (whole !)))) (and-then ! (load ! (from ! (stop !)) (look ! 62 refl)) (and-then ! (load ! (from ! (stop !)) (look ! 70 refl)) (no-more !))))) (λ w4. came ! report-call.ended (report-call.clauses 𝓤 H A mem run) y4 w4 word 81 refl refl (true ∷ false ∷ false ∷ false ∷ []) (λ r ws. (ws .0) ≡ (ws3 .0)) (λ r ws. id⊢ 𝓤 _) (λ r4 ws4 is4 e4. back-ref ! tt Countersᴿ cs-b cs-o (ws3 .0) (ws4 .0) $
       -- the exit
-      returns ! (look ! 82 refl) $ leave ! 10 (full _ ∷ full _ ∷ full _ ∷ full _ ∷ full _ ∷ full _ ∷ full _ ∷ full _ ∷ full _ ∷ full _ ∷ full _ ∷ full _ ∷ full _ ∷ full _ ∷ full _ ∷ full _ ∷ full _ ∷ full _ ∷ full _ ∷ full _ ∷ full _ ∷ full _ ∷ full _ ∷ full _ ∷ full _ ∷ full _ ∷ full _ ∷ full _ ∷ full _ ∷ full _ ∷ full _ ∷ full _ ∷ full _ ∷ full _ ∷ full _ ∷ full _ ∷ full _ ∷ []) refl $ keep ! (1 ∷ 9 ∷ 7 ∷ 5 ∷ 3 ∷ 0 ∷ 8 ∷ 6 ∷ 4 ∷ 2 ∷ []) $ ends W f.ended stayed (f.clauses 𝓤 H A mem run) y (word .val r4) r4 ((ws4 .0), ((ws3 .1 .0), ((ws3 .1 .1 .0), ((ws3 .1 .1 .1 .0), ((ws0 .0), (tt, tt)))))) (tt, (l3-1, (l3-2, (l3-3, (l0-0, (tt, tt)))))) (word .makes 𝓤 H A W r4 _ is4) (so 𝓤 (subst (λ (c : Counters). Runs (lentTo cs m ys) (lentTo c (ws3 .1 .0) (ws3 .1 .1 .0))) (sym e4) (then-record (take (r0 .length) (ws0 .0)) (then-propose (r0 .name .bytes) (then-timer (r0 .view) none e1) e2) e3))) (held (held (held (held (held (made (id⊢ 𝓤 _) end))))))))))))))))))))))))))))))))))))))))))))))))))))))))))))))))))))))))))))))
+      returns ! (look ! 82 refl) $ leave ! 10 (full _ ∷ full _ ∷ full _ ∷ full _ ∷ full _ ∷ full _ ∷ full _ ∷ full _ ∷ full _ ∷ full _ ∷ full _ ∷ full _ ∷ full _ ∷ full _ ∷ full _ ∷ full _ ∷ full _ ∷ full _ ∷ full _ ∷ full _ ∷ full _ ∷ full _ ∷ full _ ∷ full _ ∷ full _ ∷ full _ ∷ full _ ∷ full _ ∷ full _ ∷ full _ ∷ full _ ∷ full _ ∷ full _ ∷ full _ ∷ full _ ∷ full _ ∷ full _ ∷ []) refl $ keep ! (1 ∷ 9 ∷ 7 ∷ 5 ∷ 3 ∷ 0 ∷ 8 ∷ 6 ∷ 4 ∷ 2 ∷ []) $ ends W f.ended stayed (f.clauses 𝓤 H A mem run) y (word .val r4) r4 ((ws4 .0), ((ws3 .1 .0), ((ws3 .1 .1 .0), ((ws3 .1 .1 .1 .0), ((ws0 .0), (tt, tt)))))) (tt, (l3-1, (l3-2, (l3-3, (l0-0, (tt, tt)))))) (word .makes 𝓤 H A W r4 _ is4) (so 𝓤 (subst (λ (c : Counters). Runs (lentTo cs m ys) (lentTo c (ws3 .1 .0) (ws3 .1 .1 .0))) (sym e4) (then-record (take (r0 .length) (ws0 .0)) (then-propose (r0 .name .bytes) (then-timer (r0 .view .0) none e1) e2) e3))) (held (held (held (held (held (made (id⊢ 𝓤 _) end))))))))))))))))))))))))))))))))))))))))))))))))))))))))))))))))))))))))))))))
 
 module _ {M : Type 1} (𝓤 : URA M) (H : Heap 𝓤) (A : Atoms 𝓤) (W : Given 𝓤 H A) (mem : Memory → SProp 𝓤) (run : Routine → Fun 𝓤) where
   goes : AllGo 𝓤 H A W 5 (f.signature .params) (f.ended .kept) stayed
@@ -133,4 +134,4 @@ step-spec 𝓤 H 𝓜 𝓖 𝓡 =
     entered 𝓤 H (tripleOf 𝓤 H (𝓖 .A) f.signature (f.spec 𝓤 H (𝓖 .A) (𝓜 .mem) (𝓡 .run)))
     (tables 𝓤 H 𝓜 𝓡 code.env .C) (tables 𝓤 H 𝓜 𝓡 code.env .Λ) #f code.function (code.unfolded 𝓤 H 𝓜 𝓡)
     (meets 𝓤 H (𝓖 .A) (givenOf 𝓤 H 𝓜 𝓖) (𝓜 .mem) (𝓡 .run) (tablesOf 𝓤 H 𝓜 (tables 𝓤 H 𝓜 𝓡 code.env))
-    (cited 𝓤 H (next-requestᶜ 𝓤 H (𝓖 .A) (𝓜 .mem) (𝓡 .run)) 𝓜 𝓡 code.env next-request-def.name next-request-def.routine code.calls-run·next-request (next-request-thm.met 𝓤 H 𝓜 𝓖 𝓡), (cited 𝓤 H (timer-callᶜ 𝓤 H (𝓖 .A) (𝓜 .mem) (𝓡 .run)) 𝓜 𝓡 code.env timer-call-def.name timer-call-def.routine code.calls-run·timer-call (timer-call-thm.met 𝓤 H 𝓜 𝓖 𝓡), (cited 𝓤 H (propose-callᶜ 𝓤 H (𝓖 .A) (𝓜 .mem) (𝓡 .run)) 𝓜 𝓡 code.env propose-call-def.name propose-call-def.routine code.calls-run·propose-call (propose-call-thm.met 𝓤 H 𝓜 𝓖 𝓡), (cited 𝓤 H (record-callᶜ 𝓤 H (𝓖 .A) (𝓜 .mem) (𝓡 .run)) 𝓜 𝓡 code.env record-call-def.name record-call-def.routine code.calls-run·record-call (record-call-thm.met 𝓤 H 𝓜 𝓖 𝓡), cited 𝓤 H (tellᶜ 𝓤 H (𝓖 .A) (𝓜 .mem) (𝓡 .run)) 𝓜 𝓡 code.env tell-def.name tell-def.routine code.calls-run·tell (tell-thm.met 𝓤 H 𝓜 𝓖 𝓡))))))
+    (cited 𝓤 H (next-requestᶜ 𝓤 H (𝓖 .A) (𝓜 .mem) (𝓡 .run)) 𝓜 𝓡 code.env next-request-def.name next-request-def.routine code.calls-run·next-request (next-request-thm.met 𝓤 H 𝓜 𝓖 𝓡), (cited 𝓤 H (timer-callᶜ 𝓤 H (𝓖 .A) (𝓜 .mem) (𝓡 .run)) 𝓜 𝓡 code.env timer-call-def.name timer-call-def.routine code.calls-run·timer-call (timer-call-thm.met 𝓤 H 𝓜 𝓖 𝓡), (cited 𝓤 H (propose-callᶜ 𝓤 H (𝓖 .A) (𝓜 .mem) (𝓡 .run)) 𝓜 𝓡 code.env propose-call-def.name propose-call-def.routine code.calls-run·propose-call (propose-call-thm.met 𝓤 H 𝓜 𝓖 𝓡), (cited 𝓤 H (record-callᶜ 𝓤 H (𝓖 .A) (𝓜 .mem) (𝓡 .run)) 𝓜 𝓡 code.env record-call-def.name record-call-def.routine code.calls-run·record-call (record-call-thm.met 𝓤 H 𝓜 𝓖 𝓡), cited 𝓤 H (report-callᶜ 𝓤 H (𝓖 .A) (𝓜 .mem) (𝓡 .run)) 𝓜 𝓡 code.env report-call-def.name report-call-def.routine code.calls-run·report-call (report-call-thm.met 𝓤 H 𝓜 𝓖 𝓡))))))

@@ -23,9 +23,9 @@ use Rattle.run.proofs.open_call.Met as open-call-thm
 use Rattle.run.proofs.begin as begin
 use Rattle.run.proofs.begin.Symbol as begin-def
 use Rattle.run.proofs.begin.Met as begin-thm
-use Rattle.run.proofs.play as play
-use Rattle.run.proofs.play.Symbol as play-def
-use Rattle.run.proofs.play.Met as play-thm
+use Rattle.run.proofs.run_steps as run-steps
+use Rattle.run.proofs.run_steps.Symbol as run-steps-def
+use Rattle.run.proofs.run_steps.Met as run-steps-thm
 use Rattle.run.proofs.with_counters.Key.{name as #f}
 use Rattle.run.proofs.with_counters as f
 use Rattle.run.proofs.with_counters.Statement as stated
@@ -47,12 +47,12 @@ module _ {M : Type 1} (𝓤 : URA M) (H : Heap 𝓤) (A : Atoms 𝓤) (mem : Mem
   abbrev beginᶜ : Contract 𝓤
   beginᶜ = tripleOf 𝓤 H A begin.signature (begin.spec 𝓤 H A mem run)
 
-  abbrev playᶜ : Contract 𝓤
-  playᶜ = tripleOf 𝓤 H A play.signature (play.spec 𝓤 H A mem run)
+  abbrev run-stepsᶜ : Contract 𝓤
+  run-stepsᶜ = tripleOf 𝓤 H A run-steps.signature (run-steps.spec 𝓤 H A mem run)
 
   -- what is known of the callees
   abbrev Known : Calls 𝓤 H → Type 1
-  Known C = Triple 𝓤 (C read-opening-def.name) read-openingᶜ × (Triple 𝓤 (C opened-def.name) openedᶜ × (Triple 𝓤 (C open-call-def.name) open-callᶜ × (Triple 𝓤 (C begin-def.name) beginᶜ × Triple 𝓤 (C play-def.name) playᶜ)))
+  Known C = Triple 𝓤 (C read-opening-def.name) read-openingᶜ × (Triple 𝓤 (C opened-def.name) openedᶜ × (Triple 𝓤 (C open-call-def.name) open-callᶜ × (Triple 𝓤 (C begin-def.name) beginᶜ × Triple 𝓤 (C run-steps-def.name) run-stepsᶜ)))
 
 module _ {M : Type 1} (𝓤 : URA M) (H : Heap 𝓤) (A : Atoms 𝓤) (W : Given 𝓤 H A) (mem : Memory → SProp 𝓤) (run : Routine → Fun 𝓤) (κ0 κ1 κ2 κ3 : Lft) (q0 q1 q2 q3 : Share) (m-b m-o : ℕ) (m-γ : GName) (m : List ℕ) (ys-b ys-o : ℕ) (ys-γ : GName) (ys : List Block) (out-b out-o : ℕ) (out-γ : GName) (out : List ℕ) (rec-b rec-o : ℕ) (rec-γ : GName) (rec : List ℕ)
     (m-room : Room u8 (length m)) (ys-room : Room Blockᴿ (length ys)) (out-room : Room u8 (length out)) (rec-room : Room u8 (length rec)) where
@@ -101,9 +101,9 @@ module _ {M : Type 1} (𝓤 : URA M) (H : Heap 𝓤) (A : Atoms 𝓤) (W : Given
       let y2 : open-callᶜ 𝓤 H A mem run .Ghost = ((((ν2-0 ∷ []), ((ν2-1 ∷ []), ((ν2-2 ∷ []), tt))), (fullShare, (fullShare, (fullShare, tt))), tt, (pointing Countersᴿ l₆ zero δ2-0 r1, (lying u8 m-b m-o δ2-1 m, (lying Blockᴿ ys-b ys-o δ2-2 ys, (r0, tt)))), (vptr l₆ zero ∷ [], (m-s ∷ [], (ys-s ∷ [], ((Openingᴰ .val r0) ∷ [], tt))))), tt) in move ! (6 ∷ 3 ∷ 0 ∷ 7 ∷ 4 ∷ 1 ∷ []) $ asks ! open-call.ended (open-call.clauses 𝓤 H A mem run) y2 6 (held (held (held (of W Openingᴰ r0 is0 end)))) refl (id⊢ 𝓤 _) $ calls-at ! fm (open-callᶜ 𝓤 H A mem run) (known .1 .1 .0) y2 (and-then ! (load ! (from ! (stop !)) (look ! 34 refl)) (and-then ! (load ! (from ! (stop !)) (look ! 30 refl)) (and-then ! (load ! (from ! (stop !)) (look ! 26 refl)) (and-then ! (load ! (from ! (stop !)) (look ! 47 refl)) (no-more !))))) (λ w2. came ! open-call.ended (open-call.clauses 𝓤 H A mem run) y2 w2 word 43 refl refl (true ∷ true ∷ false ∷ false ∷ []) (λ r ws. Unit {0}) (λ r ws. factI 𝓤 _ _ tt) (λ r2 ws2 is2 e2. move ! (0 ∷ 3 ∷ 7 ∷ []) $ back-local ! tt Countersᴿ Countersᴰ refl (ws2 .0) l₆ (λ b2-0. move ! (1 ∷ 3 ∷ 5 ∷ []) $ back-again ! tt u8 m-b m-o m-n m (ws2 .1 .0) m-room refl (λ l2-1. move ! (3 ∷ 4 ∷ []) $ back-shr ! tt Blockᴿ ys-b ys-o ys-n ys ys-room refl $
       -- call 3: `run::begin`
       let y3 : beginᶜ 𝓤 H A mem run .Ghost = ((tt, tt, tt, (r2, tt), ((word .val r2) ∷ [], tt)), tt) in asks ! begin.ended (begin.clauses 𝓤 H A mem run) y3 0 (of W word r2 is2 end) refl (id⊢ 𝓤 _) $ calls-at ! fm (beginᶜ 𝓤 H A mem run) (known .1 .1 .1 .0) y3 (and-then ! (load ! (from ! (stop !)) (look ! 46 refl)) (no-more !)) (λ w3. came ! begin.ended (begin.clauses 𝓤 H A mem run) y3 w3 word 43 refl refl ([]) (λ r ws. Unit {0}) (λ r ws. so 𝓤 tt) (λ r3 ws3 is3 e3. assigns ! (addr ! (from ! (stop !))) (from ! (stop !)) (init ! 25 refl (tt, tt)) $ assigns ! (addr ! (from ! (fld ! refl (hop ! (look-in ! 56 (sub ! 0 refl (whole !))) (stop !))))) (from ! (stop !)) (init ! 23 refl (tt, tt)) $ assigns ! (agg ! (and-then ! (load ! (from ! (stop !)) (look ! 23 refl)) (and-then ! (load ! (from ! (fld ! refl (stop !))) (look-in ! 56 (sub ! 1 refl (whole !)))) (no-more !)))) (from ! (stop !)) (init ! 21 refl (tt, (tt, (record { fits = m-room .0 }, tt)))) $ assigns ! (addr ! (from ! (fld ! refl (hop ! (look-in ! 54 (sub ! 0 refl (whole !))) (stop !))))) (from ! (stop !)) (init ! 19 refl (tt, tt)) $ assigns ! (agg ! (and-then ! (load ! (from ! (stop !)) (look ! 19 refl)) (and-then ! (load ! (from ! (fld ! refl (stop !))) (look-in ! 54 (sub ! 1 refl (whole !)))) (no-more !)))) (from ! (stop !)) (init ! 17 refl (tt, (tt, (record { fits = ys-room .0 }, tt)))) $ assigns ! (addr ! (from ! (fld ! refl (hop ! (look-in ! 52 (sub ! 0 refl (whole !))) (stop !))))) (from ! (stop !)) (init ! 15 refl (tt, tt)) $ assigns ! (agg ! (and-then ! (load ! (from ! (stop !)) (look ! 15 refl)) (and-then ! (load ! (from ! (fld ! refl (stop !))) (look-in ! 52 (sub ! 1 refl (whole !)))) (no-more !)))) (from ! (stop !)) (init ! 13 refl (tt, (tt, (record { fits = out-room .0 }, tt)))) $ assigns ! (addr ! (from ! (fld ! refl (hop ! (look-in ! 50 (sub ! 0 refl (whole !))) (stop !))))) (from ! (stop !)) (init ! 11 refl (tt, tt)) $ assigns ! (agg ! (and-then ! (load ! (from ! (stop !)) (look ! 11 refl)) (and-then ! (load ! (from ! (fld ! refl (stop !))) (look-in ! 50 (sub ! 1 refl (whole !)))) (no-more !)))) (from ! (stop !)) (init ! 9 refl (tt, (tt, (record { fits = rec-room .0 }, tt)))) $
-      -- call 4: `run::play`
+      -- call 4: `run::run_steps`
       move ! (4 ∷ []) $ lend-local ! tt Countersᴿ Countersᴰ refl (ws2 .0) b2-0 l₆ (λ ν4-0 δ4-0. move ! (5 ∷ 6 ∷ []) $ lend-mut ! tt u8 m-b m-o m-n (ws2 .1 .0) l2-1 (λ ν4-1 δ4-1. move ! (6 ∷ 7 ∷ []) $ lend-mut ! tt Blockᴿ ys-b ys-o ys-n ys refl (λ ν4-2 δ4-2. move ! (11 ∷ 12 ∷ []) $ lend-mut ! tt u8 out-b out-o out-n out refl (λ ν4-3 δ4-3. move ! (12 ∷ 13 ∷ []) $ lend-mut ! tt u8 rec-b rec-o rec-n (ws0 .0) l0-0 (λ ν4-4 δ4-4.
-      let y4 : playᶜ 𝓤 H A mem run .Ghost = ((((ν4-0 ∷ []), ((ν4-1 ∷ []), ((ν4-2 ∷ []), ((ν4-3 ∷ []), ((ν4-4 ∷ []), tt))))), (fullShare, (fullShare, (fullShare, (fullShare, (fullShare, tt))))), tt, (pointing Countersᴿ l₆ zero δ4-0 (ws2 .0), (lying u8 m-b m-o δ4-1 (ws2 .1 .0), (lying Blockᴿ ys-b ys-o δ4-2 ys, (lying u8 out-b out-o δ4-3 out, (lying u8 rec-b rec-o δ4-4 (ws0 .0), (62, (r3, tt))))))), (vptr l₆ zero ∷ [], (m-s ∷ [], (ys-s ∷ [], (out-s ∷ [], (rec-s ∷ [], ((word .val 62) ∷ [], ((word .val r3) ∷ [], tt)))))))), tt) in move ! (12 ∷ 9 ∷ 6 ∷ 3 ∷ 0 ∷ 13 ∷ 10 ∷ 7 ∷ 4 ∷ 1 ∷ []) $ asks ! play.ended (play.clauses 𝓤 H A mem run) y4 10 (held (held (held (held (held (of W word 62 (refl, lit< tt) (of W word r3 is3 end))))))) refl (id⊢ 𝓤 _) $ calls-at ! fm (playᶜ 𝓤 H A mem run) (known .1 .1 .1 .1) y4 (and-then ! (load ! (from ! (stop !)) (look ! 22 refl)) (and-then ! (load ! (from ! (stop !)) (look ! 18 refl)) (and-then ! (load ! (from ! (stop !)) (look ! 14 refl)) (and-then ! (load ! (from ! (stop !)) (look ! 10 refl)) (and-then ! (load ! (from ! (stop !)) (look ! 6 refl)) (and-then ! (lit ! tt) (and-then ! (load ! (from ! (stop !)) (look ! 40 refl)) (no-more !)))))))) (λ w4. came ! play.ended (play.clauses 𝓤 H A mem run) y4 w4 word 54 refl refl (true ∷ true ∷ true ∷ true ∷ true ∷ false ∷ false ∷ []) (λ r ws. Unit {0}) (λ r ws. factI 𝓤 _ _ tt) (λ r4 ws4 is4 e4. move ! (0 ∷ 5 ∷ 14 ∷ []) $ back-local ! tt Countersᴿ Countersᴰ refl (ws4 .0) l₆ (λ b4-0. move ! (1 ∷ 5 ∷ 12 ∷ []) $ back-again ! tt u8 m-b m-o m-n (ws2 .1 .0) (ws4 .1 .0) m-room l2-1 (λ l4-1. move ! (3 ∷ 6 ∷ 11 ∷ []) $ back-again ! tt Blockᴿ ys-b ys-o ys-n ys (ws4 .1 .1 .0) ys-room refl (λ l4-2. move ! (5 ∷ 7 ∷ 10 ∷ []) $ back-again ! tt u8 out-b out-o out-n out (ws4 .1 .1 .1 .0) out-room refl (λ l4-3. move ! (7 ∷ 8 ∷ 9 ∷ []) $ back-again ! tt u8 rec-b rec-o rec-n (ws0 .0) (ws4 .1 .1 .1 .1 .0) rec-room l0-0 (λ l4-4.
+      let y4 : run-stepsᶜ 𝓤 H A mem run .Ghost = ((((ν4-0 ∷ []), ((ν4-1 ∷ []), ((ν4-2 ∷ []), ((ν4-3 ∷ []), ((ν4-4 ∷ []), tt))))), (fullShare, (fullShare, (fullShare, (fullShare, (fullShare, tt))))), tt, (pointing Countersᴿ l₆ zero δ4-0 (ws2 .0), (lying u8 m-b m-o δ4-1 (ws2 .1 .0), (lying Blockᴿ ys-b ys-o δ4-2 ys, (lying u8 out-b out-o δ4-3 out, (lying u8 rec-b rec-o δ4-4 (ws0 .0), (62, (r3, tt))))))), (vptr l₆ zero ∷ [], (m-s ∷ [], (ys-s ∷ [], (out-s ∷ [], (rec-s ∷ [], ((word .val 62) ∷ [], ((word .val r3) ∷ [], tt)))))))), tt) in move ! (12 ∷ 9 ∷ 6 ∷ 3 ∷ 0 ∷ 13 ∷ 10 ∷ 7 ∷ 4 ∷ 1 ∷ []) $ asks ! run-steps.ended (run-steps.clauses 𝓤 H A mem run) y4 10 (held (held (held (held (held (of W word 62 (refl, lit< tt) (of W word r3 is3 end))))))) refl (id⊢ 𝓤 _) $ calls-at ! fm (run-stepsᶜ 𝓤 H A mem run) (known .1 .1 .1 .1) y4 (and-then ! (load ! (from ! (stop !)) (look ! 22 refl)) (and-then ! (load ! (from ! (stop !)) (look ! 18 refl)) (and-then ! (load ! (from ! (stop !)) (look ! 14 refl)) (and-then ! (load ! (from ! (stop !)) (look ! 10 refl)) (and-then ! (load ! (from ! (stop !)) (look ! 6 refl)) (and-then ! (lit ! tt) (and-then ! (load ! (from ! (stop !)) (look ! 40 refl)) (no-more !)))))))) (λ w4. came ! run-steps.ended (run-steps.clauses 𝓤 H A mem run) y4 w4 word 54 refl refl (true ∷ true ∷ true ∷ true ∷ true ∷ false ∷ false ∷ []) (λ r ws. Unit {0}) (λ r ws. factI 𝓤 _ _ tt) (λ r4 ws4 is4 e4. move ! (0 ∷ 5 ∷ 14 ∷ []) $ back-local ! tt Countersᴿ Countersᴰ refl (ws4 .0) l₆ (λ b4-0. move ! (1 ∷ 5 ∷ 12 ∷ []) $ back-again ! tt u8 m-b m-o m-n (ws2 .1 .0) (ws4 .1 .0) m-room l2-1 (λ l4-1. move ! (3 ∷ 6 ∷ 11 ∷ []) $ back-again ! tt Blockᴿ ys-b ys-o ys-n ys (ws4 .1 .1 .0) ys-room refl (λ l4-2. move ! (5 ∷ 7 ∷ 10 ∷ []) $ back-again ! tt u8 out-b out-o out-n out (ws4 .1 .1 .1 .0) out-room refl (λ l4-3. move ! (7 ∷ 8 ∷ 9 ∷ []) $ back-again ! tt u8 rec-b rec-o rec-n (ws0 .0) (ws4 .1 .1 .1 .1 .0) rec-room l0-0 (λ l4-4.
       -- the exit
       move ! (0 ∷ 1 ∷ 2 ∷ 3 ∷ 4 ∷ 5 ∷ 6 ∷ 7 ∷ 9 ∷ 10 ∷ 11 ∷ 12 ∷ 13 ∷ 14 ∷ 15 ∷ 16 ∷ 17 ∷ 18 ∷ 19 ∷ 20 ∷ 21 ∷ 22 ∷ 23 ∷ 24 ∷ 25 ∷ 26 ∷ 27 ∷ 28 ∷ 29 ∷ 30 ∷ 31 ∷ 32 ∷ 33 ∷ 34 ∷ 35 ∷ 36 ∷ 37 ∷ 38 ∷ 39 ∷ 40 ∷ 41 ∷ 42 ∷ 43 ∷ 44 ∷ 45 ∷ 46 ∷ 8 ∷ 47 ∷ 48 ∷ 49 ∷ 50 ∷ 51 ∷ 52 ∷ 53 ∷ 54 ∷ 55 ∷ 56 ∷ 57 ∷ 58 ∷ 59 ∷ []) $ returns ! (look ! 58 refl) $ leave ! 8 (full _ ∷ full _ ∷ full _ ∷ full _ ∷ full _ ∷ full _ ∷ full _ ∷ full _ ∷ full _ ∷ full _ ∷ full _ ∷ full _ ∷ full _ ∷ full _ ∷ full _ ∷ full _ ∷ full _ ∷ full _ ∷ full _ ∷ full _ ∷ full _ ∷ full _ ∷ full _ ∷ full _ ∷ full _ ∷ full _ ∷ []) refl $ keep ! (7 ∷ 5 ∷ 3 ∷ 1 ∷ 6 ∷ 4 ∷ 2 ∷ 0 ∷ []) $ ends W f.ended stayed (f.clauses 𝓤 H A mem run) y (word .val r4) r4 ((ws4 .1 .0), ((ws4 .1 .1 .0), ((ws4 .1 .1 .1 .0), ((ws4 .1 .1 .1 .1 .0), tt)))) (l4-1, (l4-2, (l4-3, (l4-4, tt)))) (word .makes 𝓤 H A W r4 _ is4) (id⊢ 𝓤 _) (held (held (held (held end)))))))))))))))))))))))))))))))))))))))))))))))))))))))))
 
@@ -124,4 +124,4 @@ with-counters-spec 𝓤 H 𝓜 𝓖 𝓡 =
     entered 𝓤 H (tripleOf 𝓤 H (𝓖 .A) f.signature (f.spec 𝓤 H (𝓖 .A) (𝓜 .mem) (𝓡 .run)))
     (tables 𝓤 H 𝓜 𝓡 code.env .C) (tables 𝓤 H 𝓜 𝓡 code.env .Λ) #f code.function (code.unfolded 𝓤 H 𝓜 𝓡)
     (meets 𝓤 H (𝓖 .A) (givenOf 𝓤 H 𝓜 𝓖) (𝓜 .mem) (𝓡 .run) (tablesOf 𝓤 H 𝓜 (tables 𝓤 H 𝓜 𝓡 code.env))
-    (cited 𝓤 H (read-openingᶜ 𝓤 H (𝓖 .A) (𝓜 .mem) (𝓡 .run)) 𝓜 𝓡 code.env read-opening-def.name read-opening-def.routine code.calls-run·read-opening (read-opening-thm.met 𝓤 H 𝓜 𝓖 𝓡), (cited 𝓤 H (openedᶜ 𝓤 H (𝓖 .A) (𝓜 .mem) (𝓡 .run)) 𝓜 𝓡 code.env opened-def.name opened-def.routine code.calls-counters·opened (opened-thm.met 𝓤 H 𝓜 𝓖 𝓡), (cited 𝓤 H (open-callᶜ 𝓤 H (𝓖 .A) (𝓜 .mem) (𝓡 .run)) 𝓜 𝓡 code.env open-call-def.name open-call-def.routine code.calls-run·open-call (open-call-thm.met 𝓤 H 𝓜 𝓖 𝓡), (cited 𝓤 H (beginᶜ 𝓤 H (𝓖 .A) (𝓜 .mem) (𝓡 .run)) 𝓜 𝓡 code.env begin-def.name begin-def.routine code.calls-run·begin (begin-thm.met 𝓤 H 𝓜 𝓖 𝓡), cited 𝓤 H (playᶜ 𝓤 H (𝓖 .A) (𝓜 .mem) (𝓡 .run)) 𝓜 𝓡 code.env play-def.name play-def.routine code.calls-run·play (play-thm.met 𝓤 H 𝓜 𝓖 𝓡))))))
+    (cited 𝓤 H (read-openingᶜ 𝓤 H (𝓖 .A) (𝓜 .mem) (𝓡 .run)) 𝓜 𝓡 code.env read-opening-def.name read-opening-def.routine code.calls-run·read-opening (read-opening-thm.met 𝓤 H 𝓜 𝓖 𝓡), (cited 𝓤 H (openedᶜ 𝓤 H (𝓖 .A) (𝓜 .mem) (𝓡 .run)) 𝓜 𝓡 code.env opened-def.name opened-def.routine code.calls-counters·opened (opened-thm.met 𝓤 H 𝓜 𝓖 𝓡), (cited 𝓤 H (open-callᶜ 𝓤 H (𝓖 .A) (𝓜 .mem) (𝓡 .run)) 𝓜 𝓡 code.env open-call-def.name open-call-def.routine code.calls-run·open-call (open-call-thm.met 𝓤 H 𝓜 𝓖 𝓡), (cited 𝓤 H (beginᶜ 𝓤 H (𝓖 .A) (𝓜 .mem) (𝓡 .run)) 𝓜 𝓡 code.env begin-def.name begin-def.routine code.calls-run·begin (begin-thm.met 𝓤 H 𝓜 𝓖 𝓡), cited 𝓤 H (run-stepsᶜ 𝓤 H (𝓖 .A) (𝓜 .mem) (𝓡 .run)) 𝓜 𝓡 code.env run-steps-def.name run-steps-def.routine code.calls-run·run-steps (run-steps-thm.met 𝓤 H 𝓜 𝓖 𝓡))))))

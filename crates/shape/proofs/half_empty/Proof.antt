@@ -31,4 +31,9 @@ unfolding halfEmpty
 returns-2 c = rw (ne-eqb _ _ (c .before .if1 .left), ← c .is-zero2 .ensures) (against-false (c .is-zero2 .result))
 
 pub half-empty-spec : {M : Type 1} → statement M
-half-empty-spec = tie.close (tie.spec is-zero-requires returns is-zero-requires-2 returns-2)
+half-empty-spec = tie.close
+    (tie.spec
+    is-zero-requires
+    returns
+    is-zero-requires-2
+    returns-2)

@@ -12,7 +12,7 @@ u64-at-requires c κs = search needs
 
 returns : tie.Need-returns
 unfolding slotValueBad
-returns c = rw (← c .before .u64-at .ensures, ne-eqb _ _ (c .if1 .taken))
+returns c = rw (← c .before .before .u64-at .ensures, ne-eqb _ _ (c .if1 .taken))
 
 u16-at-requires : tie.Need-u16-at-requires
 u16-at-requires c κs = search needs
@@ -22,18 +22,18 @@ cast-sender c = search needs
 
 returns-2 : tie.Need-returns-2
 unfolding slotValueBad
-returns-2 c = rw (← c .before .before .before .u64-at .ensures, eq-eqb _ _ (c .before .before .if1 .left), ← c .before .u16-at .ensures, lt-ltb _ _ (c .if2 .taken))
+returns-2 c = rw (← c .before .before .before .before .u64-at .ensures, eq-eqb _ _ (c .before .before .if1 .left), ← c .before .u16-at .ensures, lt-ltb _ _ (c .if2 .taken))
 
 returns-3 : tie.Need-returns-3
 unfolding slotValueBad
-returns-3 c = rw (← c .before .before .before .before .u64-at .ensures, eq-eqb _ _ (c .before .before .before .if1 .left), ← c .before .before .u16-at .ensures, le-ltb _ _ (c .before .if2 .left), le-leb _ _ (c .if3 .taken))
+returns-3 c = rw (← c .before .before .before .before .before .u64-at .ensures, eq-eqb _ _ (c .before .before .before .if1 .left), ← c .before .before .u16-at .ensures, le-ltb _ _ (c .before .if2 .left), le-leb _ _ (c .if3 .taken))
 
 timeout-value-bad-requires : tie.Need-timeout-value-bad-requires
 timeout-value-bad-requires c κs = search needs
 
 returns-4 : tie.Need-returns-4
 unfolding slotValueBad
-returns-4 c = rw (← c .before .before .before .before .before .u64-at .ensures, eq-eqb _ _ (c .before .before .before .before .if1 .left), ← c .before .before .before .u16-at .ensures, le-ltb _ _ (c .before .before .if2 .left), lt-leb _ _ (c .before .if3 .left), c .timeout-value-bad .ensures)
+returns-4 c = rw (← c .before .before .before .before .before .before .u64-at .ensures, eq-eqb _ _ (c .before .before .before .before .if1 .left), ← c .before .before .before .u16-at .ensures, le-ltb _ _ (c .before .before .if2 .left), lt-leb _ _ (c .before .if3 .left), c .timeout-value-bad .ensures)
 
 pub slot-value-bad-spec : {M : Type 1} → statement M
 slot-value-bad-spec =

@@ -15,7 +15,7 @@ use Rattle.codec.proofs.num.u16_at.Reads as u16-at-reads
 use Rattle.shape.proofs.slot_value_bad.Reads as slot-value-bad-reads
 
 abbrev Inv-loop : tie.InvT-loop
-Inv-loop rec count n view i₀ low₀ i low = (i ≤ count) × (slotsValueBad n view 0 (cut count (drop 24 rec)) ≡ slotsValueBad n view low (slotsFrom rec count i))
+Inv-loop rec count n view i₀ low₀ i low = (i ≤ count) × (slotsValueBad n (view .0) 0 (cut count (drop 24 rec)) ≡ slotsValueBad n (view .0) low (slotsFrom rec count i))
 
 abbrev μ-loop : tie.MeasureT-loop
 μ-loop rec count n view i₀ low₀ i low = count - i

@@ -31,8 +31,8 @@ add-u64-at c = search needs
 u64-at-requires : tie.Need-u64-at-requires
 u64-at-requires c κs = let i = c .before .before .before .before .before .before .pre in omega (arith, i .whole, rec-long _ _ _ _ i)
 
-add-next : tie.Need-add-next
-add-next c = let i = c .before .before .before .before .before .before .before .pre in omega (arith, view-read _ _ _ _ i (c .u64-at .ensures), i .progress .view)
+add-t17 : tie.Need-add-t17
+add-t17 c = let i = c .before .before .before .before .before .before .before .pre in omega (arith, view-read _ _ _ _ i (c .u64-at .ensures), i .progress .view)
 
 enter-requires : tie.Need-enter-requires
 enter-requires c κs = let i = c .before .before .before .before .before .before .before .before .pre in let e = view-read _ _ _ _ i (c .before .u64-at .ensures) in let w = ap (λ (x : View). x .0) (ap (λ x. x .view) (c .before .before .adopt-safe .ensures) ∙ adopting-view _ _) in (i .ready .long, (omega (arith, e, i .view, w), omega (arith, e, i .progress .view)))
@@ -75,7 +75,7 @@ advance-spec =
     adopt-safe-requires
     add-u64-at
     u64-at-requires
-    add-next
+    add-t17
     enter-requires
     add-put-entry
     sub-put-entry

@@ -13,15 +13,15 @@ safe-of-entry-requires c κs = let R = ready-regular (c .before .before .before 
 add-t16 : tie.Need-add-t16
 add-t16 c = omega (arith, c .before .before .before .before .before .before .before .pre .1 .0)
 
-offer-requires : tie.Need-offer-requires
-offer-requires c κs = let R = ready-regular (c .before .before .before .before .before .before .before .before .before .args .d) _ _ (c .before .before .before .before .before .before .before .before .before .pre .0) (draft-typed (c .before .before .before .before .before .before .before .before .before .args .d) (c .before .before .before .before .before .before .before .before .before .good .1 .1 .0)) (λ j. c .before .before .before .before .before .before .before .before .slice-known .given j .fits) in (c .before .before .before .before .before .before .before .before .before .pre .0 .long, (form-room _ _ (R .few) (R .entry), omega (arith, c .before .before .before .before .before .before .before .before .before .pre .0 .room)))
+put-own-proposal-requires : tie.Need-put-own-proposal-requires
+put-own-proposal-requires c κs = let R = ready-regular (c .before .before .before .before .before .before .before .before .before .args .d) _ _ (c .before .before .before .before .before .before .before .before .before .pre .0) (draft-typed (c .before .before .before .before .before .before .before .before .before .args .d) (c .before .before .before .before .before .before .before .before .before .good .1 .1 .0)) (λ j. c .before .before .before .before .before .before .before .before .slice-known .given j .fits) in (c .before .before .before .before .before .before .before .before .before .pre .0 .long, (form-room _ _ (R .few) (R .entry), omega (arith, c .before .before .before .before .before .before .before .before .before .pre .0 .room)))
 
 adopting-requires : tie.Need-adopting-requires
 adopting-requires c κs = tt
 
 hold-and-vote-requires : tie.Need-hold-and-vote-requires
 hold-and-vote-requires c κs = let R = ready-regular (c .before .before .before .before .before .before .before .before .before .before .before .before .before .before .before .args .d) _ _ (c .before .before .before .before .before .before .before .before .before .before .before .before .before .before .before .pre .0) (draft-typed (c .before .before .before .before .before .before .before .before .before .before .before .before .before .before .before .args .d) (c .before .before .before .before .before .before .before .before .before .before .before .before .before .before .before .good .1 .1 .0)) (λ j. c .before .before .before .before .before .before .before .before .before .before .before .before .before .before .slice-known .given j .fits) in
-    (propose-ready (c .before .before .before .before .before .before .before .before .before .before .before .before .before .before .before .args .d) _ _ (c .before .before .before .before .before .before .before .before .before .before .before .before .before .before .before .args .name) (c .before .before .before .before .before .before .before .before .before .before .before .before .before .before .before .args .base .0) (name-typed (c .before .before .before .before .before .before .before .before .before .before .before .before .before .before .before .args .name) (c .before .before .before .before .before .before .before .before .before .before .before .before .before .before .before .good .1 .1 .1 .0)) R (c .before .before .before .before .before .before .before .before .before .before .before .before .before .before .before .pre .0) (c .before .before .before .before .before .before .before .before .before .before .safe-of-entry .ensures) (c .before .before .before .before .before .offer .ensures) (c .before .before .adopting .ensures), λ e. c .before .before .before .before .before .before .before .before .before .before .before .before .before .before .before .pre .1 .1)
+    (propose-ready (c .before .before .before .before .before .before .before .before .before .before .before .before .before .before .before .args .d) _ _ (c .before .before .before .before .before .before .before .before .before .before .before .before .before .before .before .args .name) (c .before .before .before .before .before .before .before .before .before .before .before .before .before .before .before .args .base .0) (name-typed (c .before .before .before .before .before .before .before .before .before .before .before .before .before .before .before .args .name) (c .before .before .before .before .before .before .before .before .before .before .before .before .before .before .before .good .1 .1 .1 .0)) R (c .before .before .before .before .before .before .before .before .before .before .before .before .before .before .before .pre .0) (c .before .before .before .before .before .before .before .before .before .before .safe-of-entry .ensures) (c .before .before .before .before .before .put-own-proposal .ensures) (c .before .before .adopting .ensures), λ e. c .before .before .before .before .before .before .before .before .before .before .before .before .before .before .before .pre .1 .1)
 
 same-length : tie.Need-same-length
 same-length c = search needs
@@ -31,7 +31,7 @@ same-length-2 c = search needs
 
 returns : tie.Need-returns
 returns c = let R = ready-regular (c .before .before .before .before .before .before .before .before .before .before .before .before .before .before .before .before .before .before .before .before .args .d) _ _ (c .before .before .before .before .before .before .before .before .before .before .before .before .before .before .before .before .before .before .before .before .pre .0) (draft-typed (c .before .before .before .before .before .before .before .before .before .before .before .before .before .before .before .before .before .before .before .before .args .d) (c .before .before .before .before .before .before .before .before .before .before .before .before .before .before .before .before .before .before .before .before .good .1 .1 .0)) (λ j. c .before .before .before .before .before .before .before .before .before .before .before .before .before .before .before .before .before .before .before .slice-known .given j .fits) in
-    propose-gives (c .before .before .before .before .before .before .before .before .before .before .before .before .before .before .before .before .before .before .before .before .args .d) _ _ (c .before .before .before .before .before .before .before .before .before .before .before .before .before .before .before .before .before .before .before .before .args .name) (c .before .before .before .before .before .before .before .before .before .before .before .before .before .before .before .before .before .before .before .before .args .base .0) (name-typed (c .before .before .before .before .before .before .before .before .before .before .before .before .before .before .before .before .before .before .before .before .args .name) (c .before .before .before .before .before .before .before .before .before .before .before .before .before .before .before .before .before .before .before .before .good .1 .1 .1 .0)) R (c .before .before .before .before .before .before .before .before .before .before .before .before .before .before .before .before .before .before .before .before .pre .0) (c .before .before .before .before .before .before .before .before .before .before .before .before .before .before .before .safe-of-entry .ensures) (c .before .before .before .before .before .before .before .before .before .before .offer .ensures) (c .before .before .before .before .before .before .before .adopting .ensures) (c .before .before .before .before .hold-and-vote .ensures)
+    propose-gives (c .before .before .before .before .before .before .before .before .before .before .before .before .before .before .before .before .before .before .before .before .args .d) _ _ (c .before .before .before .before .before .before .before .before .before .before .before .before .before .before .before .before .before .before .before .before .args .name) (c .before .before .before .before .before .before .before .before .before .before .before .before .before .before .before .before .before .before .before .before .args .base .0) (name-typed (c .before .before .before .before .before .before .before .before .before .before .before .before .before .before .before .before .before .before .before .before .args .name) (c .before .before .before .before .before .before .before .before .before .before .before .before .before .before .before .before .before .before .before .before .good .1 .1 .1 .0)) R (c .before .before .before .before .before .before .before .before .before .before .before .before .before .before .before .before .before .before .before .before .pre .0) (c .before .before .before .before .before .before .before .before .before .before .before .before .before .before .before .safe-of-entry .ensures) (c .before .before .before .before .before .before .before .before .before .before .put-own-proposal .ensures) (c .before .before .before .before .before .before .before .adopting .ensures) (c .before .before .before .before .hold-and-vote .ensures)
 
 pub on-propose-spec : {M : Type 1} → statement M
 on-propose-spec =
@@ -39,7 +39,7 @@ on-propose-spec =
     (tie.spec
     safe-of-entry-requires
     add-t16
-    offer-requires
+    put-own-proposal-requires
     adopting-requires
     hold-and-vote-requires
     same-length

@@ -23,7 +23,13 @@ returns-3 c = rw (not-false (c .before .before .before .before .before .before .
 
 returns-4 : tie.Need-returns-4
 unfolding misplacedOn
-returns-4 c = rw (not-false (c .before .before .before .before .before .before .before .before .before .args .under .is) (c .before .before .before .before .before .before .if1 .left), eq-eqb (c .before .before .before .before .before .before .before .before .before .args .b .height .0) (suc (c .before .before .before .before .before .before .before .before .before .args .under .block .height .0)) (omega (arith, c .before .if3 .left, c .before .before .before .before .if2 .left)))
+returns-4 c = rw (not-false (c .before .before .before .before .before .before .before .before .before .before .args .under .is) (c .before .before .before .before .before .before .before .if1 .left), eq-eqb (c .before .before .before .before .before .before .before .before .before .before .args .b .height .0) (suc (c .before .before .before .before .before .before .before .before .before .before .args .under .block .height .0)) (omega (arith, c .before .before .if3 .left, c .before .before .before .before .before .if2 .left)))
 
 pub misplaced-on-spec : {M : Type 1} → statement M
-misplaced-on-spec = tie.close (tie.spec returns returns-2 sub-if3 returns-3 returns-4)
+misplaced-on-spec = tie.close
+    (tie.spec
+    returns
+    returns-2
+    sub-if3
+    returns-3
+    returns-4)

@@ -1,5 +1,5 @@
 use Prim.Native.Nat.{_≤_}
-use Rattle.memory.specs.declared.decided.Quest.{Quest}
+use Rattle.memory.specs.declared.decided.Quorums.{Quorums}
 use borrow.Author.Tests.{lt-ltb, le-ltb}
 use Rattle.memory.specs.Decided.{likely}
 use borrow.Author.Needs.{needs}

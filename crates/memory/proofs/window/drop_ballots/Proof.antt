@@ -16,7 +16,7 @@ use Rattle.memory.proofs.kept.commit_row.Reads as commit-row-reads
 use Rattle.memory.proofs.kept.vote_row.Reads as vote-row-reads
 
 abbrev Inv-loop : tie.InvT-loop
-Inv-loop mem₀ from k i₀ mem i = (i ≤ k) × ((length mem ≡ length mem₀) × (withoutBallots mem (from + i) (k - i) ≡ withoutBallots mem₀ from k))
+Inv-loop mem₀ from k i₀ mem i = (i ≤ k) × ((length mem ≡ length mem₀) × (withoutBallots mem (from .0 + i) (k - i) ≡ withoutBallots mem₀ (from .0) k))
 
 abbrev μ-loop : tie.MeasureT-loop
 μ-loop mem₀ from k i₀ mem i = k - i
@@ -24,8 +24,8 @@ abbrev μ-loop : tie.MeasureT-loop
 loop-holds : tie.Need-loop-holds Inv-loop μ-loop
 loop-holds c = (search needs, (refl, rw (add-zero, sub-zero)))
 
-add-vote-row : tie.Need-add-vote-row Inv-loop μ-loop
-add-vote-row c = search needs
+add-t10 : tie.Need-add-t10 Inv-loop μ-loop
+add-t10 c = search needs
 
 vote-row-requires : tie.Need-vote-row-requires Inv-loop μ-loop
 vote-row-requires c κs = search needs
@@ -33,14 +33,14 @@ vote-row-requires c κs = search needs
 clear-row-requires : tie.Need-clear-row-requires Inv-loop μ-loop
 clear-row-requires c κs = omega (arith, c .vote-row .ensures)
 
-add-commit-row : tie.Need-add-commit-row Inv-loop μ-loop
-add-commit-row c = search needs
+add-t10-2 : tie.Need-add-t10-2 Inv-loop μ-loop
+add-t10-2 c = search needs
 
 commit-row-requires : tie.Need-commit-row-requires Inv-loop μ-loop
 commit-row-requires c κs = search needs
 
 clear-row-requires-2 : tie.Need-clear-row-requires-2 Inv-loop μ-loop
-clear-row-requires-2 c κs = omega (arith, c .commit-row .ensures, ap length (c .before .before .before .before .clear-row .ensures) ∙ length-cleared _ _ _)
+clear-row-requires-2 c κs = omega (arith, c .commit-row .ensures, ap length (c .before .before .before .before .before .clear-row .ensures) ∙ length-cleared _ _ _)
 
 add-i : tie.Need-add-i Inv-loop μ-loop
 add-i c = search needs
@@ -49,10 +49,10 @@ loop-less : tie.Need-loop-less Inv-loop μ-loop
 loop-less c = search needs
 
 loop-again : tie.Need-loop-again Inv-loop μ-loop
-loop-again c = let l = c .before .before .before .before .before .before .before .before .before .before .before .loop in let a = c .before .before .before .before .before .before .before .before .before .before .before .before .before .args in
-    let e : c .before .before .before .before .before .before .before .clear-row .last .0 ≡ cleared (l .mem) (voteRow (a .from + l .i)) 32 = c .before .before .before .before .before .before .before .clear-row .ensures ∙ ap (λ (r : ℕ). cleared (l .mem) r 32) (c .before .before .before .before .before .before .before .before .vote-row .ensures) in
-    let f : c .before .before .clear-row2 .last .0 ≡ cleared (cleared (l .mem) (voteRow (a .from + l .i)) 32) (commitRow (a .from + l .i)) 32 = c .before .before .clear-row2 .ensures ∙ ap (λ (r : ℕ). cleared (c .before .before .before .before .before .before .before .clear-row .last .0) r 32) (c .before .before .before .commit-row .ensures) ∙ ap (λ (s : List ℕ). cleared s (commitRow (a .from + l .i)) 32) e in
-    (omega arith, (ap length f ∙ length-cleared _ _ _ ∙ length-cleared _ _ _ ∙ l .inv .1 .0, ap (λ (s : List ℕ). withoutBallots s (a .from + (l .i + 1)) (a .k - (l .i + 1))) f ∙ sym (ballots-on _ _ _ (l .i) (c .before .before .before .before .before .before .before .before .before .before .loop-test .taken)) ∙ l .inv .1 .1))
+loop-again c = let l = c .before .before .before .before .before .before .before .before .before .before .before .before .before .loop in let a = c .before .before .before .before .before .before .before .before .before .before .before .before .before .before .before .args in
+    let e : c .before .before .before .before .before .before .before .before .clear-row .last .0 ≡ cleared (l .mem) (voteRow (a .from .0 + l .i)) 32 = c .before .before .before .before .before .before .before .before .clear-row .ensures ∙ ap (λ (r : ℕ). cleared (l .mem) r 32) (c .before .before .before .before .before .before .before .before .before .vote-row .ensures) in
+    let f : c .before .before .clear-row2 .last .0 ≡ cleared (cleared (l .mem) (voteRow (a .from .0 + l .i)) 32) (commitRow (a .from .0 + l .i)) 32 = c .before .before .clear-row2 .ensures ∙ ap (λ (r : ℕ). cleared (c .before .before .before .before .before .before .before .before .clear-row .last .0) r 32) (c .before .before .before .commit-row .ensures) ∙ ap (λ (s : List ℕ). cleared s (commitRow (a .from .0 + l .i)) 32) e in
+    (omega arith, (ap length f ∙ length-cleared _ _ _ ∙ length-cleared _ _ _ ∙ l .inv .1 .0, ap (λ (s : List ℕ). withoutBallots s (a .from .0 + (l .i + 1)) (a .k - (l .i + 1))) f ∙ sym (ballots-on _ _ _ (l .i) (c .before .before .before .before .before .before .before .before .before .before .before .before .loop-test .taken)) ∙ l .inv .1 .1))
 
 same-length : tie.Need-same-length Inv-loop μ-loop
 same-length c = c .before .loop .inv .1 .0
@@ -67,10 +67,10 @@ drop-ballots-spec =
     Inv-loop
     μ-loop
     loop-holds
-    add-vote-row
+    add-t10
     vote-row-requires
     clear-row-requires
-    add-commit-row
+    add-t10-2
     commit-row-requires
     clear-row-requires-2
     add-i

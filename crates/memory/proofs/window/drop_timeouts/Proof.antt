@@ -15,7 +15,7 @@ use Rattle.memory.proofs.kept.clear_row.Reads as clear-row-reads
 use Rattle.memory.proofs.kept.timeout_row.Reads as timeout-row-reads
 
 abbrev Inv-loop : tie.InvT-loop
-Inv-loop mem₀ from k i₀ mem i = (i ≤ k) × ((length mem ≡ length mem₀) × (withoutTimeouts mem (from + i) (k - i) ≡ withoutTimeouts mem₀ from k))
+Inv-loop mem₀ from k i₀ mem i = (i ≤ k) × ((length mem ≡ length mem₀) × (withoutTimeouts mem (from .0 + i) (k - i) ≡ withoutTimeouts mem₀ (from .0) k))
 
 abbrev μ-loop : tie.MeasureT-loop
 μ-loop mem₀ from k i₀ mem i = k - i
@@ -23,8 +23,8 @@ abbrev μ-loop : tie.MeasureT-loop
 loop-holds : tie.Need-loop-holds Inv-loop μ-loop
 loop-holds c = (search needs, (refl, rw (add-zero, sub-zero)))
 
-add-timeout-row : tie.Need-add-timeout-row Inv-loop μ-loop
-add-timeout-row c = search needs
+add-t10 : tie.Need-add-t10 Inv-loop μ-loop
+add-t10 c = search needs
 
 timeout-row-requires : tie.Need-timeout-row-requires Inv-loop μ-loop
 timeout-row-requires c κs = search needs
@@ -39,9 +39,9 @@ loop-less : tie.Need-loop-less Inv-loop μ-loop
 loop-less c = search needs
 
 loop-again : tie.Need-loop-again Inv-loop μ-loop
-loop-again c = let l = c .before .before .before .before .before .before .loop in let a = c .before .before .before .before .before .before .before .before .args in
-    let e : c .before .before .clear-row .last .0 ≡ cleared (l .mem) (timeoutRow (a .from + l .i)) 112 = c .before .before .clear-row .ensures ∙ ap (λ (r : ℕ). cleared (l .mem) r 112) (c .before .before .before .timeout-row .ensures) in
-    (omega arith, (ap length e ∙ length-cleared _ _ _ ∙ l .inv .1 .0, ap (λ (s : List ℕ). withoutTimeouts s (a .from + (l .i + 1)) (a .k - (l .i + 1))) e ∙ sym (timeouts-on _ _ _ (l .i) (c .before .before .before .before .before .loop-test .taken)) ∙ l .inv .1 .1))
+loop-again c = let l = c .before .before .before .before .before .before .before .loop in let a = c .before .before .before .before .before .before .before .before .before .args in
+    let e : c .before .before .clear-row .last .0 ≡ cleared (l .mem) (timeoutRow (a .from .0 + l .i)) 112 = c .before .before .clear-row .ensures ∙ ap (λ (r : ℕ). cleared (l .mem) r 112) (c .before .before .before .timeout-row .ensures) in
+    (omega arith, (ap length e ∙ length-cleared _ _ _ ∙ l .inv .1 .0, ap (λ (s : List ℕ). withoutTimeouts s (a .from .0 + (l .i + 1)) (a .k - (l .i + 1))) e ∙ sym (timeouts-on _ _ _ (l .i) (c .before .before .before .before .before .before .loop-test .taken)) ∙ l .inv .1 .1))
 
 same-length : tie.Need-same-length Inv-loop μ-loop
 same-length c = c .before .loop .inv .1 .0
@@ -56,7 +56,7 @@ drop-timeouts-spec =
     Inv-loop
     μ-loop
     loop-holds
-    add-timeout-row
+    add-t10
     timeout-row-requires
     clear-row-requires
     add-i

@@ -12,20 +12,20 @@ incoming-requires c κs = search needs
 incoming-requires-2 : tie.Need-incoming-requires-2
 incoming-requires-2 c κs = search needs
 
-add-drop-ballots : tie.Need-add-drop-ballots
-add-drop-ballots c = search needs
+add-t9 : tie.Need-add-t9
+add-t9 c = search needs
 
-sub-drop-ballots : tie.Need-sub-drop-ballots
-sub-drop-ballots c = search needs
+sub-t10 : tie.Need-sub-t10
+sub-t10 c = search needs
 
 drop-ballots-requires : tie.Need-drop-ballots-requires
 drop-ballots-requires c κs = search needs
 
-add-drop-timeouts : tie.Need-add-drop-timeouts
-add-drop-timeouts c = search needs
+add-t9-2 : tie.Need-add-t9-2
+add-t9-2 c = search needs
 
-sub-drop-timeouts : tie.Need-sub-drop-timeouts
-sub-drop-timeouts c = search needs
+sub-t10-2 : tie.Need-sub-t10-2
+sub-t10-2 c = search needs
 
 drop-timeouts-requires : tie.Need-drop-timeouts-requires
 drop-timeouts-requires c κs = search needs
@@ -35,7 +35,7 @@ same-length c = search needs
 
 returns : tie.Need-returns
 unfolding entered
-returns c = rw (c .before .before .drop-timeouts .ensures, c .before .before .before .before .before .before .drop-ballots .ensures, ← c .before .before .before .before .before .before .before .before .incoming2 .ensures, ← c .before .before .before .before .before .before .before .before .before .incoming .ensures)
+returns c = rw (c .before .before .drop-timeouts .ensures, c .before .before .before .before .before .before .before .drop-ballots .ensures, ← c .before .before .before .before .before .before .before .before .before .before .incoming2 .ensures, ← c .before .before .before .before .before .before .before .before .before .before .before .incoming .ensures)
 
 pub enter-spec : {M : Type 1} → statement M
 enter-spec =
@@ -43,11 +43,11 @@ enter-spec =
     (tie.spec
     incoming-requires
     incoming-requires-2
-    add-drop-ballots
-    sub-drop-ballots
+    add-t9
+    sub-t10
     drop-ballots-requires
-    add-drop-timeouts
-    sub-drop-timeouts
+    add-t9-2
+    sub-t10-2
     drop-timeouts-requires
     same-length
     returns)

@@ -18,4 +18,9 @@ unfolding leaderOf
 returns c = rw (c .n .ensures)
 
 pub leader-spec : {M : Type 1} → statement M
-leader-spec = tie.close (tie.spec sub-result n-requires rem-result returns)
+leader-spec = tie.close
+    (tie.spec
+    sub-result
+    n-requires
+    rem-result
+    returns)

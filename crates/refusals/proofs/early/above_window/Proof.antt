@@ -10,10 +10,14 @@ sub-if2 : tie.Need-sub-if2
 sub-if2 c = search needs
 
 returns : tie.Need-returns
-returns c = rw (lt-ltb (c .before .before .args .view + 3) (c .before .before .args .v) (omega arith))
+returns c = rw (lt-ltb (c .before .before .before .before .before .before .args .current .0 + 3) (c .before .before .before .before .before .before .args .v .0) (omega arith))
 
 returns-2 : tie.Need-returns-2
-returns-2 c = let h : c .before .args .v ≤ c .before .args .view + 3 = ⊎-elim (λ w. omega arith) (λ w. omega arith) (c .if1 .came) in rw (le-ltb (c .before .args .view + 3) (c .before .args .v) h)
+returns-2 c = let h : c .before .before .before .before .before .args .v .0 ≤ c .before .before .before .before .before .args .current .0 + 3 = ⊎-elim (λ w. omega arith) (λ w. omega arith) (c .before .before .if1 .came) in rw (le-ltb (c .before .before .before .before .before .args .current .0 + 3) (c .before .before .before .before .before .args .v .0) h)
 
 pub above-window-spec : {M : Type 1} → statement M
-above-window-spec = tie.close (tie.spec sub-if2 returns returns-2)
+above-window-spec = tie.close
+    (tie.spec
+    sub-if2
+    returns
+    returns-2)

@@ -35,38 +35,38 @@ lowest-requires c κs = search needs
 
 returns-2 : tie.Need-returns-2
 unfolding ballotRules
-returns-2 c = skip _ _ (sym (c .before .before .before .before .not-other .ensures) ∙ c .before .before .before .if1 .left) (hit _ _ (rw (← c .before .before .lowest .ensures) (lt-ltb _ _ (c .if2 .taken))))
+returns-2 c = skip _ _ (sym (c .before .before .before .before .before .not-other .ensures) ∙ c .before .before .before .before .if1 .left) (hit _ _ (rw (← c .before .before .before .lowest .ensures) (lt-ltb _ _ (c .if2 .taken))))
 
 above-window-requires : tie.Need-above-window-requires
 above-window-requires c κs = search needs
 
 returns-3 : tie.Need-returns-3
 unfolding ballotRules
-returns-3 c = skip _ _ (sym (c .before .before .before .before .before .before .not-other .ensures) ∙ c .before .before .before .before .before .if1 .left) (skip _ _ (rw (← c .before .before .before .before .lowest .ensures) (le-ltb _ _ (c .before .before .if2 .left))) (hit _ _ (sym (c .before .above-window .ensures) ∙ c .if3 .taken)))
+returns-3 c = skip _ _ (sym (c .before .before .before .before .before .before .before .not-other .ensures) ∙ c .before .before .before .before .before .before .if1 .left) (skip _ _ (rw (← c .before .before .before .before .before .lowest .ensures) (le-ltb _ _ (c .before .before .if2 .left))) (hit _ _ (sym (c .before .above-window .ensures) ∙ c .if3 .taken)))
 
 has-requires : tie.Need-has-requires
-has-requires c κs = (omega (arith, c .before .before .before .before .before .before .before .before .before .pre .0, c .before .before .before .before .before .before .before .before .before .pre .1 .1), omega (arith, small (c .before .before .before .before .before)))
+has-requires c κs = (omega (arith, c .before .before .before .before .before .before .before .before .before .before .pre .0, c .before .before .before .before .before .before .before .before .before .before .pre .1 .1), omega (arith, small (c .before .before .before .before .before .before)))
 
 returns-4 : tie.Need-returns-4
 unfolding ballotRules
-returns-4 c = let e = sym (c .before .has .ensures) ∙ not-true (c .before .has .result) (c .if4 .taken) in skip _ _ (sym (c .before .before .before .before .before .before .before .before .not-other .ensures) ∙ c .before .before .before .before .before .before .before .if1 .left) (skip _ _ (rw (← c .before .before .before .before .before .before .lowest .ensures) (le-ltb _ _ (c .before .before .before .before .if2 .left))) (skip _ _ (sym (c .before .before .before .above-window .ensures) ∙ c .before .before .if3 .left) (skip _ _ (and-not _ _ e) (skip _ _ e none))))
+returns-4 c = let e = sym (c .before .has .ensures) ∙ not-true (c .before .has .result) (c .if4 .taken) in skip _ _ (sym (c .before .before .before .before .before .before .before .before .before .not-other .ensures) ∙ c .before .before .before .before .before .before .before .before .if1 .left) (skip _ _ (rw (← c .before .before .before .before .before .before .before .lowest .ensures) (le-ltb _ _ (c .before .before .before .before .if2 .left))) (skip _ _ (sym (c .before .before .before .above-window .ensures) ∙ c .before .before .if3 .left) (skip _ _ (and-not _ _ e) (skip _ _ e none))))
 
 entry-at-requires : tie.Need-entry-at-requires
-entry-at-requires c κs = (omega (arith, c .before .before .before .before .before .before .before .before .before .before .before .pre .1 .1), (search needs, omega (arith, small (c .before .before .before .before .before .before .before))))
+entry-at-requires c κs = (omega (arith, c .before .before .before .before .before .before .before .before .before .before .before .before .pre .1 .1), (search needs, omega (arith, small (c .before .before .before .before .before .before .before .before))))
 
 name-at-requires : tie.Need-name-at-requires
-name-at-requires c κs = omega (arith, c .entry-at .ensures, small (c .before .before .before .before .before .before .before .before), c .before .before .before .before .before .before .before .before .before .before .before .before .pre .0, c .before .before .before .before .before .before .before .before .before .before .before .before .pre .1 .1)
+name-at-requires c κs = omega (arith, c .entry-at .ensures, small (c .before .before .before .before .before .before .before .before .before), c .before .before .before .before .before .before .before .before .before .before .before .before .before .pre .0, c .before .before .before .before .before .before .before .before .before .before .before .before .before .pre .1 .1)
 
 same-requires : tie.Need-same-requires
 same-requires c κs = search needs
 
 returns-5 : tie.Need-returns-5
 unfolding ballotRules kept
-returns-5 c = let e = sym (c .before .before .before .before .before .has .ensures) ∙ not-false (c .before .before .before .before .before .has .result) (c .before .before .before .before .if4 .left) in skip _ _ (sym (c .before .before .before .before .before .before .before .before .before .before .before .before .not-other .ensures) ∙ c .before .before .before .before .before .before .before .before .before .before .before .if1 .left) (skip _ _ (rw (← c .before .before .before .before .before .before .before .before .before .before .lowest .ensures) (le-ltb _ _ (c .before .before .before .before .before .before .before .before .if2 .left))) (skip _ _ (sym (c .before .before .before .before .before .before .before .above-window .ensures) ∙ c .before .before .before .before .before .before .if3 .left) (hit _ _ (and-both _ _ e (rw (← c .before .before .before .entry-at .ensures, ← c .before .before .name-at .ensures, ← c .before .same .ensures) (c .if5 .taken))))))
+returns-5 c = let e = sym (c .before .before .before .before .before .has .ensures) ∙ not-false (c .before .before .before .before .before .has .result) (c .before .before .before .before .if4 .left) in skip _ _ (sym (c .before .before .before .before .before .before .before .before .before .before .before .before .before .not-other .ensures) ∙ c .before .before .before .before .before .before .before .before .before .before .before .before .if1 .left) (skip _ _ (rw (← c .before .before .before .before .before .before .before .before .before .before .before .lowest .ensures) (le-ltb _ _ (c .before .before .before .before .before .before .before .before .if2 .left))) (skip _ _ (sym (c .before .before .before .before .before .before .before .above-window .ensures) ∙ c .before .before .before .before .before .before .if3 .left) (hit _ _ (and-both _ _ e (rw (← c .before .before .before .entry-at .ensures, ← c .before .before .name-at .ensures, ← c .before .same .ensures) (c .if5 .taken))))))
 
 returns-6 : tie.Need-returns-6
 unfolding ballotRules kept
-returns-6 c = let e = sym (c .before .before .before .before .before .has .ensures) ∙ not-false (c .before .before .before .before .before .has .result) (c .before .before .before .before .if4 .left) in skip _ _ (sym (c .before .before .before .before .before .before .before .before .before .before .before .before .not-other .ensures) ∙ c .before .before .before .before .before .before .before .before .before .before .before .if1 .left) (skip _ _ (rw (← c .before .before .before .before .before .before .before .before .before .before .lowest .ensures) (le-ltb _ _ (c .before .before .before .before .before .before .before .before .if2 .left))) (skip _ _ (sym (c .before .before .before .before .before .before .before .above-window .ensures) ∙ c .before .before .before .before .before .before .if3 .left) (skip _ _ (and-nor _ _ e (rw (← c .before .before .before .entry-at .ensures, ← c .before .before .name-at .ensures, ← c .before .same .ensures) (c .if5 .left))) (hit _ _ e))))
+returns-6 c = let e = sym (c .before .before .before .before .before .has .ensures) ∙ not-false (c .before .before .before .before .before .has .result) (c .before .before .before .before .if4 .left) in skip _ _ (sym (c .before .before .before .before .before .before .before .before .before .before .before .before .before .not-other .ensures) ∙ c .before .before .before .before .before .before .before .before .before .before .before .before .if1 .left) (skip _ _ (rw (← c .before .before .before .before .before .before .before .before .before .before .before .lowest .ensures) (le-ltb _ _ (c .before .before .before .before .before .before .before .before .if2 .left))) (skip _ _ (sym (c .before .before .before .before .before .before .before .above-window .ensures) ∙ c .before .before .before .before .before .before .if3 .left) (skip _ _ (and-nor _ _ e (rw (← c .before .before .before .entry-at .ensures, ← c .before .before .name-at .ensures, ← c .before .same .ensures) (c .if5 .left))) (hit _ _ e))))
 
 pub ballot-spec : {M : Type 1} → statement M
 ballot-spec =

@@ -26,11 +26,11 @@ use Rattle.settings.proofs.Settings.n.Reads as n-reads
 member : (c : tie.Else1) → leb (replicas (settingsOf (c .before .before .before .before .before .before .args .mem .now))) (senderOf (c .before .before .before .before .before .before .args .rec .now)) ≡ false
 member c = rw (c .before .before .n .ensures, c .before .before .before .settings .ensures, c .before .u16-at .ensures) at (lt-leb _ _ (c .if1 .left))
 
-below : (c : tie.Else2) → leb lastView (c .before .before .before .before .before .before .before .before .before .args .b .view .0) ≡ false
-below c = rw (c .before .before .block-certificate .ensures) at (lt-leb _ _ (c .if2 .left))
+below : (c : tie.Else2) → leb lastView (c .before .before .before .before .before .before .before .before .before .before .args .b .view .0) ≡ false
+below c = rw (c .before .before .before .block-certificate .ensures) at (lt-leb _ _ (c .if2 .left))
 
-good : (c : tie.Else3) → isGood (settingsOf (c .before .before .before .before .before .before .before .before .before .before .before .args .mem .now)) (blockCertificate (c .before .before .before .before .before .before .before .before .before .before .before .args .b .view .0) (nameOf (drop (c .before .before .before .before .before .before .before .before .before .before .before .args .b .place) (c .before .before .before .before .before .before .before .before .before .before .before .args .rec .now))) (c .before .before .before .before .before .before .before .before .before .before .before .args .b .signers)) ≡ true
-good c = rw (c .before .before .before .before .before .before .before .before .settings .ensures, c .before .before .before .before .block-certificate .ensures) at (sym (c .before .is-good .ensures) ∙ not-false (c .before .is-good .result) (c .if3 .left))
+good : (c : tie.Else3) → isGood (settingsOf (c .before .before .before .before .before .before .before .before .before .before .before .before .args .mem .now)) (blockCertificate (c .before .before .before .before .before .before .before .before .before .before .before .before .args .b .view .0) (nameOf (drop (c .before .before .before .before .before .before .before .before .before .before .before .before .args .b .place) (c .before .before .before .before .before .before .before .before .before .before .before .before .args .rec .now))) (c .before .before .before .before .before .before .before .before .before .before .before .before .args .b .signers)) ≡ true
+good c = rw (c .before .before .before .before .before .before .before .before .before .settings .ensures, c .before .before .before .before .before .block-certificate .ensures) at (sym (c .before .is-good .ensures) ∙ not-false (c .before .is-good .result) (c .if3 .left))
 
 settings-requires : tie.Need-settings-requires
 settings-requires c κs = search needs
@@ -53,14 +53,14 @@ block-certificate-requires c κs = c .before .before .before .before .before .be
 
 returns-2 : tie.Need-returns-2
 unfolding refusals progressMeans
-returns-2 c = (skip _ _ (member (c .before .before .before)) (hit _ _ (rw (c .before .before .block-certificate .ensures) at (le-leb _ _ (c .if2 .taken)))))
+returns-2 c = (skip _ _ (member (c .before .before .before .before)) (hit _ _ (rw (c .before .before .before .block-certificate .ensures) at (le-leb _ _ (c .if2 .taken)))))
 
 is-good-requires : tie.Need-is-good-requires
 is-good-requires c κs = search needs
 
 returns-3 : tie.Need-returns-3
 unfolding refusals progressMeans
-returns-3 c = (skip _ _ (member (c .before .before .before .before .before)) (skip _ _ (below (c .before .before)) (hit _ _ (is-not _ (rw (c .before .before .before .before .before .before .before .before .settings .ensures, c .before .before .before .before .block-certificate .ensures) at (sym (c .before .is-good .ensures) ∙ not-true (c .before .is-good .result) (c .if3 .taken)))))))
+returns-3 c = (skip _ _ (member (c .before .before .before .before .before .before)) (skip _ _ (below (c .before .before)) (hit _ _ (is-not _ (rw (c .before .before .before .before .before .before .before .before .before .settings .ensures, c .before .before .before .before .before .block-certificate .ensures) at (sym (c .before .is-good .ensures) ∙ not-true (c .before .is-good .result) (c .if3 .taken)))))))
 
 locks-requires : tie.Need-locks-requires
 locks-requires c κs = search needs
@@ -70,11 +70,11 @@ outranks-requires c κs = search needs
 
 returns-4 : tie.Need-returns-4
 unfolding refusals progressMeans
-returns-4 c = (skip _ _ (member (c .before .before .before .before .before .before .before .before .before)) (skip _ _ (below (c .before .before .before .before .before .before)) (skip _ _ (isnt-not _ (good (c .before .before .before .before))) (skip _ _ (isnt-not _ (rw (c .before .before .before .locks .ensures, c .before .before .before .before .before .before .before .before .block-certificate .ensures) at (sym (c .before .outranks .ensures) ∙ c .if4 .taken))) none))))
+returns-4 c = (skip _ _ (member (c .before .before .before .before .before .before .before .before .before .before)) (skip _ _ (below (c .before .before .before .before .before .before)) (skip _ _ (isnt-not _ (good (c .before .before .before .before))) (skip _ _ (isnt-not _ (rw (c .before .before .before .locks .ensures, c .before .before .before .before .before .before .before .before .before .block-certificate .ensures) at (sym (c .before .outranks .ensures) ∙ c .if4 .taken))) none))))
 
 returns-5 : tie.Need-returns-5
 unfolding refusals progressMeans
-returns-5 c = (skip _ _ (member (c .before .before .before .before .before .before .before .before .before)) (skip _ _ (below (c .before .before .before .before .before .before)) (skip _ _ (isnt-not _ (good (c .before .before .before .before))) (hit _ _ (is-not _ (rw (c .before .before .before .locks .ensures, c .before .before .before .before .before .before .before .before .block-certificate .ensures) at (sym (c .before .outranks .ensures) ∙ c .if4 .left)))))))
+returns-5 c = (skip _ _ (member (c .before .before .before .before .before .before .before .before .before .before)) (skip _ _ (below (c .before .before .before .before .before .before)) (skip _ _ (isnt-not _ (good (c .before .before .before .before))) (hit _ _ (is-not _ (rw (c .before .before .before .locks .ensures, c .before .before .before .before .before .before .before .before .before .block-certificate .ensures) at (sym (c .before .outranks .ensures) ∙ c .if4 .left)))))))
 
 pub block-certificate-early-spec : {M : Type 1} → statement M
 block-certificate-early-spec =

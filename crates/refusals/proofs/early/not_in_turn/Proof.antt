@@ -28,7 +28,7 @@ returns-3 : tie.Need-returns-3
 returns-3 c = rw (← c .before .before .before .before .before .before .before .before .before .settings .ensures, ← c .before .before .before .before .before .before .before .before .leader .ensures, ← c .before .before .before .before .before .before .before .own .ensures, eq-eqb _ _ (c .before .before .before .before .before .before .if1 .left), lt-leb _ _ (c .before .before .before .before .if2 .left), eq-eqb _ _ (c .if3 .taken))
 
 returns-4 : tie.Need-returns-4
-returns-4 c = rw (← c .before .before .before .before .before .before .before .before .before .before .settings .ensures, ← c .before .before .before .before .before .before .before .before .before .leader .ensures, ← c .before .before .before .before .before .before .before .before .own .ensures, eq-eqb _ _ (c .before .before .before .before .before .before .before .if1 .left), lt-leb _ _ (c .before .before .before .before .before .if2 .left), ne-eqb _ _ (c .before .if3 .left))
+returns-4 c = rw (← c .before .before .before .before .before .before .before .before .before .before .before .settings .ensures, ← c .before .before .before .before .before .before .before .before .before .before .leader .ensures, ← c .before .before .before .before .before .before .before .before .before .own .ensures, eq-eqb _ _ (c .before .before .before .before .before .before .before .before .if1 .left), lt-leb _ _ (c .before .before .before .before .before .before .if2 .left), ne-eqb _ _ (c .before .before .if3 .left))
 
 pub not-in-turn-spec : {M : Type 1} → statement M
 not-in-turn-spec =

@@ -15,7 +15,7 @@ returns : tie.Need-returns
 returns c = rw (← c .before .not-other .ensures, c .if1 .taken)
 
 returns-2 : tie.Need-returns-2
-returns-2 c = rw (← c .before .before .not-other .ensures, c .before .if1 .left, c .if2 .taken)
+returns-2 c = rw (← c .before .before .before .not-other .ensures, c .before .before .if1 .left, c .if2 .taken)
 
 settings-requires : tie.Need-settings-requires
 settings-requires c κs = search needs
@@ -24,9 +24,15 @@ leader-requires : tie.Need-leader-requires
 leader-requires c κs = search needs
 
 returns-3 : tie.Need-returns-3
-returns-3 c = let h : 0 < c .before .before .before .before .before .before .args .v = omega arith in rw (← c .before .before .before .before .not-other .ensures, c .before .before .before .if1 .left, lt-ltb _ _ h, c .leader .ensures, c .before .settings .ensures)
+returns-3 c = let h : 0 < c .before .before .before .before .before .before .before .args .v .0 = omega arith in rw (← c .before .before .before .before .before .not-other .ensures, c .before .before .before .before .if1 .left, lt-ltb _ _ h, c .leader .ensures, c .before .settings .ensures)
 
 pub not-leader-spec : {M : Type 1} → statement M
 not-leader-spec =
     tie.close
-    (tie.spec not-other-requires returns returns-2 settings-requires leader-requires returns-3)
+    (tie.spec
+    not-other-requires
+    returns
+    returns-2
+    settings-requires
+    leader-requires
+    returns-3)

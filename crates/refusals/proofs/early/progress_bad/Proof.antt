@@ -27,7 +27,7 @@ returns : tie.Need-returns
 returns c = rw (← c .before .progress-good .ensures, not-true (c .before .progress-good .result) (c .if1 .taken))
 
 returns-2 : tie.Need-returns-2
-returns-2 c = rw (← c .before .before .progress-good .ensures, not-false (c .before .before .progress-good .result) (c .before .if1 .left), ne-eqb (suc (viewOfProgress (progressMeans (c .before .before .before .before .args .rec .now) (c .before .before .before .before .args .progress)))) (c .before .before .before .before .args .v) (λ e. omega (arith, e)))
+returns-2 c = rw (← c .before .before .before .progress-good .ensures, not-false (c .before .before .before .progress-good .result) (c .before .before .if1 .left), ne-eqb (suc (viewOfProgress (progressMeans (c .before .before .before .before .before .args .rec .now) (c .before .before .before .before .before .args .progress)))) (c .before .before .before .before .before .args .v .0) (λ e. omega (arith, e)))
 
 progress-view-requires : tie.Need-progress-view-requires
 progress-view-requires c κs = search needs
@@ -36,9 +36,15 @@ sub-result : tie.Need-sub-result
 sub-result c = search needs
 
 returns-3 : tie.Need-returns-3
-returns-3 c = rw (← c .before .before .before .progress-good .ensures, not-false (c .before .before .before .progress-good .result) (c .before .before .if1 .left), ← c .progress-view .ensures) (before-is (c .progress-view .result) (c .before .before .before .before .before .args .v) (omega arith))
+returns-3 c = rw (← c .before .before .before .before .before .before .progress-good .ensures, not-false (c .before .before .before .before .before .before .progress-good .result) (c .before .before .before .before .before .if1 .left), ← c .before .before .progress-view .ensures) (before-is (c .before .before .progress-view .result .0) (c .before .before .before .before .before .before .before .before .args .v .0) (omega arith))
 
 pub progress-bad-spec : {M : Type 1} → statement M
 progress-bad-spec =
     tie.close
-    (tie.spec progress-good-requires returns returns-2 progress-view-requires sub-result returns-3)
+    (tie.spec
+    progress-good-requires
+    returns
+    returns-2
+    progress-view-requires
+    sub-result
+    returns-3)

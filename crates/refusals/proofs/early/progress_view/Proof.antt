@@ -22,7 +22,7 @@ u64-at-requires c κs = let h = rw (c .before .before .progress2 .given .1) at (
 
 returns : tie.Need-returns
 unfolding progressMeans
-returns c = rw (c .before .progress .given .1)
+returns c = rw (c .before .before .progress .given .1)
 
 returns-2 : tie.Need-returns-2
 unfolding progressMeans

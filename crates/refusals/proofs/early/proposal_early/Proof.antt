@@ -48,11 +48,11 @@ party-is c = rw (c .before .u16-at .ensures, c .before .before .u64-at .ensures)
 low-is : (c : tie.After-below-view) → c .below-view .result ≡ low (c .before .before .before .before .before .before .before)
 low-is c = rw (c .before .before .before .before .u64-at .ensures) at (c .below-view .ensures)
 
-bad-is : (c : tie.After-progress-bad) → c .progress-bad .result ≡ bad (c .before .before .before .before .before .before .before .before .before .before .before .before)
-bad-is c = rw (c .before .before .progress .ensures .1, c .before .settings .ensures, c .before .before .before .before .before .before .before .before .before .u64-at .ensures) at (c .progress-bad .ensures)
+bad-is : (c : tie.After-progress-bad) → c .progress-bad .result ≡ bad (c .before .before .before .before .before .before .before .before .before .before .before .before .before .before)
+bad-is c = rw (c .before .before .progress .ensures .1, c .before .settings .ensures, c .before .before .before .before .before .before .before .before .before .before .before .u64-at .ensures) at (c .progress-bad .ensures)
 
-below : (c : tie.Else3) → leb lastView (viewOf (c .before .before .before .before .before .before .before .before .before .args .rec .now)) ≡ false
-below c = rw (c .before .before .before .before .before .before .u64-at .ensures) at (lt-leb _ _ (c .if3 .left))
+below : (c : tie.Else3) → leb lastView (viewOf (c .before .before .before .before .before .before .before .before .before .before .before .args .rec .now)) ≡ false
+below c = rw (c .before .before .before .before .before .before .before .before .u64-at .ensures) at (lt-leb _ _ (c .if3 .left))
 
 u64-at-requires : tie.Need-u64-at-requires
 u64-at-requires c κs = search needs
@@ -79,20 +79,20 @@ returns-2 c = skip _ _ (sym (party-is (c .before .before .before)) ∙ c .before
 
 returns-3 : tie.Need-returns-3
 unfolding proposalRules
-returns-3 c = skip _ _ (sym (party-is (c .before .before .before .before)) ∙ c .before .before .before .if1 .left) (skip _ _ (sym (low-is (c .before .before)) ∙ c .before .if2 .left) (hit _ _ (rw (c .before .before .before .before .before .before .u64-at .ensures) at (le-leb _ _ (c .if3 .taken)))))
+returns-3 c = skip _ _ (sym (party-is (c .before .before .before .before .before .before)) ∙ c .before .before .before .before .before .if1 .left) (skip _ _ (sym (low-is (c .before .before .before .before)) ∙ c .before .before .before .if2 .left) (hit _ _ (rw (c .before .before .before .before .before .before .before .before .u64-at .ensures) at (le-leb _ _ (c .if3 .taken)))))
 
 progress-requires : tie.Need-progress-requires
-progress-requires c κs = let S = shaped-stands (c .before .before .before .before .before .before .before .before .before .args .rec .now) 88 (c .before .before .before .before .before .before .before .before .before .pre .1 .1 .0) (c .before .before .before .before .before .before .before .before .before .pre .1 .1 .1) in (S .head, S .block)
+progress-requires c κs = let S = shaped-stands (c .before .before .before .before .before .before .before .before .before .before .before .args .rec .now) 88 (c .before .before .before .before .before .before .before .before .before .before .before .pre .1 .1 .0) (c .before .before .before .before .before .before .before .before .before .before .before .pre .1 .1 .1) in (S .head, S .block)
 
 settings-requires : tie.Need-settings-requires
 settings-requires c κs = search needs
 
 progress-bad-requires : tie.Need-progress-bad-requires
-progress-bad-requires c κs = within (c .before .before .before .before .before .before .before .before .before .before .before .args .rec .now) 88 (shaped-stands (c .before .before .before .before .before .before .before .before .before .before .before .args .rec .now) 88 (c .before .before .before .before .before .before .before .before .before .before .before .pre .1 .1 .0) (c .before .before .before .before .before .before .before .before .before .before .before .pre .1 .1 .1)) (c .before .progress .ensures .0)
+progress-bad-requires c κs = within (c .before .before .before .before .before .before .before .before .before .before .before .before .before .args .rec .now) 88 (shaped-stands (c .before .before .before .before .before .before .before .before .before .before .before .before .before .args .rec .now) 88 (c .before .before .before .before .before .before .before .before .before .before .before .before .before .pre .1 .1 .0) (c .before .before .before .before .before .before .before .before .before .before .before .before .before .pre .1 .1 .1)) (c .before .progress .ensures .0)
 
 returns-4 : tie.Need-returns-4
 unfolding proposalRules
-returns-4 c = skip _ _ (sym (party-is (c .before .before .before .before .before .before .before .before)) ∙ c .before .before .before .before .before .before .before .if1 .left) (skip _ _ (sym (low-is (c .before .before .before .before .before .before)) ∙ c .before .before .before .before .before .if2 .left) (skip _ _ (below (c .before .before .before .before)) (hit _ _ (sym (bad-is (c .before)) ∙ c .if4 .taken))))
+returns-4 c = skip _ _ (sym (party-is (c .before .before .before .before .before .before .before .before .before .before)) ∙ c .before .before .before .before .before .before .before .before .before .if1 .left) (skip _ _ (sym (low-is (c .before .before .before .before .before .before .before .before)) ∙ c .before .before .before .before .before .before .before .if2 .left) (skip _ _ (below (c .before .before .before .before)) (hit _ _ (sym (bad-is (c .before)) ∙ c .if4 .taken))))
 
 name-at-requires : tie.Need-name-at-requires
 name-at-requires c κs = search needs
@@ -102,7 +102,7 @@ voted-requires c κs = search needs
 
 returns-5 : tie.Need-returns-5
 unfolding proposalRules votedRules
-returns-5 c = skip _ _ (sym (party-is (c .before .before .before .before .before .before .before .before .before .before)) ∙ c .before .before .before .before .before .before .before .before .before .if1 .left) (skip _ _ (sym (low-is (c .before .before .before .before .before .before .before .before)) ∙ c .before .before .before .before .before .before .before .if2 .left) (skip _ _ (below (c .before .before .before .before .before .before)) (skip _ _ (sym (bad-is (c .before .before .before)) ∙ c .before .before .if4 .left) (rw (c .before .before .before .before .before .before .before .before .before .before .before .before .u64-at .ensures, c .before .name-at .ensures) at (c .voted .ensures)))))
+returns-5 c = skip _ _ (sym (party-is (c .before .before .before .before .before .before .before .before .before .before .before .before)) ∙ c .before .before .before .before .before .before .before .before .before .before .before .if1 .left) (skip _ _ (sym (low-is (c .before .before .before .before .before .before .before .before .before .before)) ∙ c .before .before .before .before .before .before .before .before .before .if2 .left) (skip _ _ (below (c .before .before .before .before .before .before)) (skip _ _ (sym (bad-is (c .before .before .before)) ∙ c .before .before .if4 .left) (rw (c .before .before .before .before .before .before .before .before .before .before .before .before .before .before .u64-at .ensures, c .before .name-at .ensures) at (c .voted .ensures)))))
 
 pub proposal-early-spec : {M : Type 1} → statement M
 proposal-early-spec =

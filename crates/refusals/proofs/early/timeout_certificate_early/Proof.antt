@@ -33,8 +33,8 @@ member c = rw (c .before .before .n .ensures, c .before .before .before .setting
 notBelow : (c : tie.Else2) → (ltb (viewOf (drop (c .before .before .before .before .before .before .before .before .before .before .args .t .place) (c .before .before .before .before .before .before .before .before .before .before .args .rec .now))) (c .before .before .before .before .before .before .before .before .before .before .args .c .view .0) || eqb (viewOf (drop (c .before .before .before .before .before .before .before .before .before .before .args .t .place) (c .before .before .before .before .before .before .before .before .before .before .args .rec .now))) 0) ≡ false
 notBelow c = rw (view-is (c .before .before)) at (sym (c .before .below-view .ensures) ∙ c .if2 .left)
 
-below : (c : tie.Else3) → leb lastView (viewOf (drop (c .before .before .before .before .before .before .before .before .before .before .before .args .t .place) (c .before .before .before .before .before .before .before .before .before .before .before .args .rec .now))) ≡ false
-below c = rw (view-is (c .before .before .before)) at (lt-leb _ _ (c .if3 .left))
+below : (c : tie.Else3) → leb lastView (viewOf (drop (c .before .before .before .before .before .before .before .before .before .before .before .before .before .args .t .place) (c .before .before .before .before .before .before .before .before .before .before .before .before .before .args .rec .now))) ≡ false
+below c = rw (view-is (c .before .before .before .before .before)) at (lt-leb _ _ (c .if3 .left))
 
 settings-requires : tie.Need-settings-requires
 settings-requires c κs = search needs
@@ -69,18 +69,18 @@ returns-2 c = skip _ _ (member (c .before .before .before .before)) (hit _ _ (rw
 
 returns-3 : tie.Need-returns-3
 unfolding refusals progressMeans
-returns-3 c = skip _ _ (member (c .before .before .before .before .before)) (skip _ _ (notBelow (c .before)) (hit _ _ (rw (view-is (c .before .before .before)) at (le-leb _ _ (c .if3 .taken)))))
+returns-3 c = skip _ _ (member (c .before .before .before .before .before .before .before)) (skip _ _ (notBelow (c .before .before .before)) (hit _ _ (rw (view-is (c .before .before .before .before .before)) at (le-leb _ _ (c .if3 .taken)))))
 
 timeouts-good-requires : tie.Need-timeouts-good-requires
-timeouts-good-requires c κs = c .before .before .before .before .before .before .before .before .before .before .before .pre .1 .1
+timeouts-good-requires c κs = c .before .before .before .before .before .before .before .before .before .before .before .before .before .pre .1 .1
 
 returns-4 : tie.Need-returns-4
 unfolding refusals progressMeans
-returns-4 c = skip _ _ (member (c .before .before .before .before .before .before .before)) (skip _ _ (notBelow (c .before .before .before)) (skip _ _ (below (c .before .before)) (skip _ _ (isnt-not _ (rw (c .before .before .before .before .before .before .before .before .before .before .settings .ensures) at (sym (c .before .timeouts-good .ensures) ∙ c .if4 .taken))) none)))
+returns-4 c = skip _ _ (member (c .before .before .before .before .before .before .before .before .before)) (skip _ _ (notBelow (c .before .before .before .before .before)) (skip _ _ (below (c .before .before)) (skip _ _ (isnt-not _ (rw (c .before .before .before .before .before .before .before .before .before .before .before .before .settings .ensures) at (sym (c .before .timeouts-good .ensures) ∙ c .if4 .taken))) none)))
 
 returns-5 : tie.Need-returns-5
 unfolding refusals progressMeans
-returns-5 c = skip _ _ (member (c .before .before .before .before .before .before .before)) (skip _ _ (notBelow (c .before .before .before)) (skip _ _ (below (c .before .before)) (hit _ _ (is-not _ (rw (c .before .before .before .before .before .before .before .before .before .before .settings .ensures) at (sym (c .before .timeouts-good .ensures) ∙ c .if4 .left))))))
+returns-5 c = skip _ _ (member (c .before .before .before .before .before .before .before .before .before)) (skip _ _ (notBelow (c .before .before .before .before .before)) (skip _ _ (below (c .before .before)) (hit _ _ (is-not _ (rw (c .before .before .before .before .before .before .before .before .before .before .before .before .settings .ensures) at (sym (c .before .timeouts-good .ensures) ∙ c .if4 .left))))))
 
 pub timeout-certificate-early-spec : {M : Type 1} → statement M
 timeout-certificate-early-spec =

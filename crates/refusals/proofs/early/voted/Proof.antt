@@ -23,4 +23,9 @@ unfolding votedRules
 returns-3 c = let e = eq-eqb _ _ (c .before .before .if1 .left) in skip _ _ (and-nor _ _ e (sym (c .before .same .ensures) ∙ c .if2 .left)) (hit _ _ e)
 
 pub voted-spec : {M : Type 1} → statement M
-voted-spec = tie.close (tie.spec returns same-requires returns-2 returns-3)
+voted-spec = tie.close
+    (tie.spec
+    returns
+    same-requires
+    returns-2
+    returns-3)

@@ -31,22 +31,22 @@ returns-2 : tie.Need-returns-2
 returns-2 c = rw (regular-is, ← c .before .before .before .before .before .settings .ensures, ← c .before .before .before .before .own .ensures, ← c .before .before .before .settings-regular .ensures, not-false (c .before .before .before .settings-regular .result) (c .before .before .if1 .left), lt-leb _ _ (c .if2 .taken))
 
 returns-3 : tie.Need-returns-3
-returns-3 c = rw (regular-is, ← c .before .before .before .before .before .before .before .settings .ensures, ← c .before .before .before .before .before .before .own .ensures, ← c .before .before .before .before .before .settings-regular .ensures, not-false (c .before .before .before .before .before .settings-regular .result) (c .before .before .before .before .if1 .left), le-leb _ _ (c .before .before .if2 .left), lt-leb _ _ (c .if3 .taken))
+returns-3 c = rw (regular-is, ← c .before .before .before .before .before .before .before .before .settings .ensures, ← c .before .before .before .before .before .before .before .own .ensures, ← c .before .before .before .before .before .before .settings-regular .ensures, not-false (c .before .before .before .before .before .before .settings-regular .result) (c .before .before .before .before .before .if1 .left), le-leb _ _ (c .before .before .before .if2 .left), lt-leb _ _ (c .if3 .taken))
 
 block-count-requires : tie.Need-block-count-requires
 block-count-requires c κs = search needs
 
 returns-4 : tie.Need-returns-4
-returns-4 c = rw (regular-is, ← c .before .before .before .before .before .before .before .before .before .settings .ensures, ← c .before .before .before .before .before .before .before .before .own .ensures, ← c .before .before .before .before .before .before .before .settings-regular .ensures, not-false (c .before .before .before .before .before .before .before .settings-regular .result) (c .before .before .before .before .before .before .if1 .left), le-leb _ _ (c .before .before .before .before .if2 .left), le-leb _ _ (c .before .before .if3 .left), ← c .before .block-count .ensures, lt-leb _ _ (c .if4 .taken))
+returns-4 c = rw (regular-is, ← c .before .before .before .before .before .before .before .before .before .before .settings .ensures, ← c .before .before .before .before .before .before .before .before .before .own .ensures, ← c .before .before .before .before .before .before .before .before .settings-regular .ensures, not-false (c .before .before .before .before .before .before .before .before .settings-regular .result) (c .before .before .before .before .before .before .before .if1 .left), le-leb _ _ (c .before .before .before .before .before .if2 .left), le-leb _ _ (c .before .before .if3 .left), ← c .before .block-count .ensures, lt-leb _ _ (c .if4 .taken))
 
 n-requires : tie.Need-n-requires
 n-requires c κs = search needs
 
 entry-regular-requires : tie.Need-entry-regular-requires
-entry-regular-requires c κs = (search needs, rw (c .n .ensures) (leb-true _ _ (and-true _ _ (sym (c .before .before .before .before .before .before .before .before .settings-regular .ensures) ∙ not-false (c .before .before .before .before .before .before .before .before .settings-regular .result) (c .before .before .before .before .before .before .before .if1 .left)) .0)))
+entry-regular-requires c κs = (search needs, rw (c .n .ensures) (leb-true _ _ (and-true _ _ (sym (c .before .before .before .before .before .before .before .before .before .settings-regular .ensures) ∙ not-false (c .before .before .before .before .before .before .before .before .before .settings-regular .result) (c .before .before .before .before .before .before .before .before .if1 .left)) .0)))
 
 returns-5 : tie.Need-returns-5
-returns-5 c = rw (regular-is, ← c .before .before .before .before .before .before .before .before .before .before .before .settings .ensures, ← c .before .before .before .before .before .before .before .before .before .before .own .ensures, ← c .before .before .before .before .before .before .before .before .before .settings-regular .ensures, not-false (c .before .before .before .before .before .before .before .before .before .settings-regular .result) (c .before .before .before .before .before .before .before .before .if1 .left), le-leb _ _ (c .before .before .before .before .before .before .if2 .left), le-leb _ _ (c .before .before .before .before .if3 .left), ← c .before .before .before .block-count .ensures, le-leb _ _ (c .before .before .if4 .left), ← c .before .n .ensures) (c .entry-regular .ensures)
+returns-5 c = rw (regular-is, ← c .before .before .before .before .before .before .before .before .before .before .before .before .settings .ensures, ← c .before .before .before .before .before .before .before .before .before .before .before .own .ensures, ← c .before .before .before .before .before .before .before .before .before .before .settings-regular .ensures, not-false (c .before .before .before .before .before .before .before .before .before .before .settings-regular .result) (c .before .before .before .before .before .before .before .before .before .if1 .left), le-leb _ _ (c .before .before .before .before .before .before .before .if2 .left), le-leb _ _ (c .before .before .before .before .if3 .left), ← c .before .before .before .block-count .ensures, le-leb _ _ (c .before .before .if4 .left), ← c .before .n .ensures) (c .entry-regular .ensures)
 
 pub regular-spec : {M : Type 1} → statement M
 regular-spec =

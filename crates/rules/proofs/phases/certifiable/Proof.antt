@@ -7,7 +7,7 @@ use Rattle.rules.proofs.phases.certifiable.Statement.{statement}
 use Rattle.rules.proofs.phases.certifiable.Tie as tie
 use Rattle.rules.proofs.phases.certifiable.Reads as reads
 use Rattle.rules.proofs.phases.certifiable.Lts as lts
-use Rattle.memory.proofs.decided.weigh.Reads as weigh-reads
+use Rattle.memory.proofs.decided.standing_of.Reads as standing-of-reads
 use Rattle.memory.proofs.kept.kept_count.Reads as kept-count-reads
 use Rattle.memory.proofs.kept.vote_row.Reads as vote-row-reads
 use Rattle.settings.proofs.Settings.block_quorum.Reads as block-quorum-reads
@@ -25,12 +25,12 @@ n-requires c κs = search needs
 block-quorum-requires : tie.Need-block-quorum-requires
 block-quorum-requires c κs = search needs
 
-weigh-requires : tie.Need-weigh-requires
-weigh-requires c κs = search needs
+standing-of-requires : tie.Need-standing-of-requires
+standing-of-requires c κs = search needs
 
 returns-2 : tie.Need-returns-2
 unfolding standing
-returns-2 c = rw (c .before .weigh .ensures, c .before .before .block-quorum .ensures, c .before .before .before .n .ensures, c .before .before .before .before .vote-row .ensures, le-ltb _ _ (c .before .before .before .before .before .before .before .before .if1 .left), eq-eqb _ _ (c .before .before .before .before .before .before .if2 .taken)) refl
+returns-2 c = rw (c .before .standing-of .ensures, c .before .before .block-quorum .ensures, c .before .before .before .n .ensures, c .before .before .before .before .vote-row .ensures, le-ltb _ _ (c .before .before .before .before .before .before .before .before .before .if1 .left), eq-eqb _ _ (c .before .before .before .before .before .before .if2 .taken)) refl
 
 block-quorum-requires-2 : tie.Need-block-quorum-requires-2
 block-quorum-requires-2 c κs = search needs
@@ -45,7 +45,7 @@ kept-count-requires : tie.Need-kept-count-requires
 kept-count-requires c κs = search needs
 
 returns-3 : tie.Need-returns-3
-returns-3 c = rw (c .kept-count .ensures, c .before .n2 .ensures, c .before .before .vote-row2 .ensures, c .before .before .before .block-quorum2 .ensures, le-ltb _ _ (c .before .before .before .before .before .before .if1 .left), ne-eqb _ _ (c .before .before .before .before .if2 .left)) refl
+returns-3 c = rw (c .kept-count .ensures, c .before .n2 .ensures, c .before .before .vote-row2 .ensures, c .before .before .before .block-quorum2 .ensures, le-ltb _ _ (c .before .before .before .before .before .before .before .if1 .left), ne-eqb _ _ (c .before .before .before .before .if2 .left)) refl
 
 pub certifiable-spec : {M : Type 1} → statement M
 certifiable-spec =
@@ -55,7 +55,7 @@ certifiable-spec =
     vote-row-requires
     n-requires
     block-quorum-requires
-    weigh-requires
+    standing-of-requires
     returns-2
     block-quorum-requires-2
     vote-row-requires-2

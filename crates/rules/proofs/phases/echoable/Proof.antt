@@ -25,13 +25,13 @@ cast-result : tie.Need-cast-result
 cast-result c = search needs
 
 returns : tie.Need-returns
-returns c = rw (lt-ltb _ _ (c .before .if1 .taken), c .before .before .kept-count .ensures, c .before .before .before .n .ensures, c .before .before .before .before .timeout-row .ensures) refl
+returns c = rw (lt-ltb _ _ (c .before .if1 .taken), c .before .before .before .before .kept-count .ensures, c .before .before .before .before .before .n .ensures, c .before .before .before .before .before .before .timeout-row .ensures) refl
 
 timeout-quorum-requires : tie.Need-timeout-quorum-requires
 timeout-quorum-requires c κs = search needs
 
 returns-2 : tie.Need-returns-2
-returns-2 c = let h : c .before .before .before .before .before .before .args .view ≤ c .before .before .before .before .before .before .args .timed = omega (arith, c .before .if1 .left) in rw (c .timeout-quorum .ensures, le-ltb _ _ h, c .before .before .kept-count .ensures, c .before .before .before .n .ensures, c .before .before .before .before .timeout-row .ensures) refl
+returns-2 c = let h : c .before .before .before .before .before .before .before .before .args .view .0 ≤ c .before .before .before .before .before .before .before .before .args .timed .0 = omega (arith, c .before .if1 .left) in rw (c .timeout-quorum .ensures, le-ltb _ _ h, c .before .before .before .before .kept-count .ensures, c .before .before .before .before .before .n .ensures, c .before .before .before .before .before .before .timeout-row .ensures) refl
 
 pub echoable-spec : {M : Type 1} → statement M
 echoable-spec =

@@ -14,10 +14,10 @@ use Rattle.memory.proofs.window.highest.Reads as highest-reads
 use Rattle.rules.proofs.phases.echoable.Reads as echoable-reads
 
 abbrev Inv-loop : tie.InvT-loop
-Inv-loop mem view timed s last at₀ at = (at ≤ suc last) × (nowhere (echoable mem s timed) view (suc last - view) ≡ nowhere (echoable mem s timed) at (suc last - at))
+Inv-loop mem timed s last at₀ at = (at ≤ suc last) × (nowhere (echoable mem s (timed .0)) at₀ (suc last - at₀) ≡ nowhere (echoable mem s (timed .0)) at (suc last - at))
 
 abbrev μ-loop : tie.MeasureT-loop
-μ-loop mem view timed s last at₀ at = suc last - at
+μ-loop mem timed s last at₀ at = suc last - at
 
 settings-requires : tie.Need-settings-requires Inv-loop μ-loop
 settings-requires c κs = search needs

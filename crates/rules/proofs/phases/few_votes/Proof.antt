@@ -15,10 +15,10 @@ use Rattle.memory.proofs.window.lowest.Reads as lowest-reads
 use Rattle.rules.proofs.phases.certifiable.Reads as certifiable-reads
 
 abbrev Inv-loop : tie.InvT-loop
-Inv-loop mem view lock s last at₀ at = (at ≤ suc last) × (nowhere (certifiable mem s lock) at₀ (suc last - at₀) ≡ nowhere (certifiable mem s lock) at (suc last - at))
+Inv-loop mem lock s last at₀ at = (at ≤ suc last) × (nowhere (certifiable mem s lock) at₀ (suc last - at₀) ≡ nowhere (certifiable mem s lock) at (suc last - at))
 
 abbrev μ-loop : tie.MeasureT-loop
-μ-loop mem view lock s last at₀ at = suc last - at
+μ-loop mem lock s last at₀ at = suc last - at
 
 settings-requires : tie.Need-settings-requires Inv-loop μ-loop
 settings-requires c κs = search needs

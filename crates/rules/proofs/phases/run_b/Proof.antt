@@ -44,7 +44,7 @@ same-length-2 : tie.Need-same-length-2 Inv-loop μ-loop
 same-length-2 c = c .before .loop .inv .1 .1 .1 .1
 
 returns : tie.Need-returns Inv-loop μ-loop
-returns c = B-ends (c .before .loop .view) (c .before .before .highest .result) (c .before .before .highest .ensures) (c .before .loop .inv .0) (c .before .loop .inv .1 .0) (c .loop-test .left) (c .before .loop .inv .1 .1 .0)
+returns c = B-ends (c .before .loop .view) (c .before .before .highest .result .0) (c .before .before .highest .ensures) (c .before .loop .inv .0) (c .before .loop .inv .1 .0) (c .loop-test .left) (c .before .loop .inv .1 .1 .0)
 
 pub run-b-spec : {M : Type 1} → statement M
 run-b-spec =

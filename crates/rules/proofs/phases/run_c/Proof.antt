@@ -25,10 +25,10 @@ highest-requires : tie.Need-highest-requires Inv-loop μ-loop
 highest-requires c κs = ready-facts _ _ _ (c .before .before .before .before .pre) .view-last
 
 loop-holds : tie.Need-loop-holds Inv-loop μ-loop
-loop-holds c = (omega arith, (omega arith, (run-start ruleC C-longer (c .before .before .before .before .before .args .d) _ _ (c .before .lowest .result) (omega (arith, c .before .before .before .before .before .pre .room)), (refl, refl))))
+loop-holds c = (omega arith, (omega arith, (run-start ruleC C-longer (c .before .before .before .before .before .args .d) _ _ (c .before .lowest .result .0) (omega (arith, c .before .before .before .before .before .pre .room)), (refl, refl))))
 
 rule-c-requires : tie.Need-rule-c-requires Inv-loop μ-loop
-rule-c-requires c κs = let f = ready-facts _ _ _ (c .before .before .before .before .before .before .before .before .before .pre) in (run-ready ruleC 104 C-regular C-out (c .before .before .before .before .before .lowest .result) (c .before .before .before .loop .view - (c .before .before .before .before .before .lowest .result)) (c .before .before .before .loop .inv .1 .1 .0) (c .before .before .before .before .before .before .before .before .before .pre) (ready-regular (c .before .before .before .before .before .before .before .before .before .args .d) _ _ (c .before .before .before .before .before .before .before .before .before .pre) (draft-typed (c .before .before .before .before .before .before .before .before .before .args .d) (c .before .before .before .before .before .before .before .before .before .good .1 .1 .0)) (λ j. c .before .before .before .before .before .before .before .before .slice-known .given j .fits)) (omega (arith, c .before .before .before .before .before .lowest .ensures, c .before .before .before .before .highest .ensures, f .view-last, c .before .before .loop-test .taken, c .before .before .before .loop .inv .0, c .before .before .before .loop .inv .1 .0)) (omega (arith, c .before .before .before .before .before .lowest .ensures, c .before .before .before .before .highest .ensures, f .view-last, f .view-first, c .before .before .loop-test .taken, c .before .before .before .loop .inv .0, c .before .before .before .loop .inv .1 .0)), omega (arith, c .before .before .before .before .before .lowest .ensures, c .before .before .before .before .highest .ensures, f .view-last, c .before .before .loop-test .taken))
+rule-c-requires c κs = let f = ready-facts _ _ _ (c .before .before .before .before .before .before .before .before .before .pre) in (run-ready ruleC 104 C-regular C-out (c .before .before .before .before .before .lowest .result .0) (c .before .before .before .loop .view - (c .before .before .before .before .before .lowest .result .0)) (c .before .before .before .loop .inv .1 .1 .0) (c .before .before .before .before .before .before .before .before .before .pre) (ready-regular (c .before .before .before .before .before .before .before .before .before .args .d) _ _ (c .before .before .before .before .before .before .before .before .before .pre) (draft-typed (c .before .before .before .before .before .before .before .before .before .args .d) (c .before .before .before .before .before .before .before .before .before .good .1 .1 .0)) (λ j. c .before .before .before .before .before .before .before .before .slice-known .given j .fits)) (omega (arith, c .before .before .before .before .before .lowest .ensures, c .before .before .before .before .highest .ensures, f .view-last, c .before .before .loop-test .taken, c .before .before .before .loop .inv .0, c .before .before .before .loop .inv .1 .0)) (omega (arith, c .before .before .before .before .before .lowest .ensures, c .before .before .before .before .highest .ensures, f .view-last, f .view-first, c .before .before .loop-test .taken, c .before .before .before .loop .inv .0, c .before .before .before .loop .inv .1 .0)), omega (arith, c .before .before .before .before .before .lowest .ensures, c .before .before .before .before .highest .ensures, f .view-last, c .before .before .loop-test .taken))
 
 add-view : tie.Need-add-view Inv-loop μ-loop
 add-view c = omega (arith, c .before .before .before .before .before .before .before .loop-test .taken, c .before .before .before .before .before .before .before .before .before .highest .ensures)
@@ -37,7 +37,7 @@ loop-less : tie.Need-loop-less Inv-loop μ-loop
 loop-less c = omega (arith, c .before .before .before .before .before .before .before .loop-test .taken)
 
 loop-again : tie.Need-loop-again Inv-loop μ-loop
-loop-again c = (omega (arith, c .before .before .before .before .before .before .before .before .loop .inv .0), (omega (arith, c .before .before .before .before .before .before .before .before .loop .inv .0, c .before .before .before .before .before .before .before .loop-test .taken), (run-turn ruleC C-longer (c .before .before .before .before .before .before .before .before .before .before .lowest .result) (c .before .before .before .before .before .before .before .before .loop .view) (c .before .before .before .before .before .before .before .before .loop .inv .0) (c .before .before .before .before .before .before .before .before .loop .inv .1 .1 .0) (c .before .before .before .before .rule-c .ensures), (omega (arith, c .before .before .before .before .rule-c .kept .0, c .before .before .before .before .before .before .before .before .loop .inv .1 .1 .1 .0), omega (arith, c .before .before .before .before .rule-c .kept .1 .0, c .before .before .before .before .before .before .before .before .loop .inv .1 .1 .1 .1)))))
+loop-again c = (omega (arith, c .before .before .before .before .before .before .before .before .loop .inv .0), (omega (arith, c .before .before .before .before .before .before .before .before .loop .inv .0, c .before .before .before .before .before .before .before .loop-test .taken), (run-turn ruleC C-longer (c .before .before .before .before .before .before .before .before .before .before .lowest .result .0) (c .before .before .before .before .before .before .before .before .loop .view) (c .before .before .before .before .before .before .before .before .loop .inv .0) (c .before .before .before .before .before .before .before .before .loop .inv .1 .1 .0) (c .before .before .before .before .rule-c .ensures), (omega (arith, c .before .before .before .before .rule-c .kept .0, c .before .before .before .before .before .before .before .before .loop .inv .1 .1 .1 .0), omega (arith, c .before .before .before .before .rule-c .kept .1 .0, c .before .before .before .before .before .before .before .before .loop .inv .1 .1 .1 .1)))))
 
 same-length : tie.Need-same-length Inv-loop μ-loop
 same-length c = c .before .loop .inv .1 .1 .1 .0
@@ -46,7 +46,7 @@ same-length-2 : tie.Need-same-length-2 Inv-loop μ-loop
 same-length-2 c = c .before .loop .inv .1 .1 .1 .1
 
 returns : tie.Need-returns Inv-loop μ-loop
-returns c = C-ends (c .before .before .before .lowest .result) (c .before .loop .view) (c .before .before .highest .result) (c .before .before .before .lowest .ensures) (c .before .before .highest .ensures) (c .before .loop .inv .0) (c .before .loop .inv .1 .0) (c .loop-test .left) (c .before .loop .inv .1 .1 .0)
+returns c = C-ends (c .before .before .before .lowest .result .0) (c .before .loop .view) (c .before .before .highest .result .0) (c .before .before .before .lowest .ensures) (c .before .before .highest .ensures) (c .before .loop .inv .0) (c .before .loop .inv .1 .0) (c .loop-test .left) (c .before .loop .inv .1 .1 .0)
 
 pub run-c-spec : {M : Type 1} → statement M
 run-c-spec =

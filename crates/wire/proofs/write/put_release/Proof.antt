@@ -11,6 +11,9 @@ use Rattle.codec.proofs.num.put_u64.Reads as put-u64-reads
 use Rattle.codec.proofs.put_name.Reads as put-name-reads
 use Rattle.wire.proofs.write.put_header.Reads as put-header-reads
 
+cast-put-header : tie.Need-cast-put-header
+cast-put-header c = search needs
+
 put-header-requires : tie.Need-put-header-requires
 put-header-requires c κs = search needs
 
@@ -53,6 +56,7 @@ pub put-release-spec : {M : Type 1} → statement M
 put-release-spec =
     tie.close
     (tie.spec
+    cast-put-header
     put-header-requires
     add-put-u64
     put-u64-requires

@@ -13,6 +13,13 @@ use Rattle.codec.proofs.num.put_u64.Reads as put-u64-reads
 use Rattle.codec.proofs.put_name.Reads as put-name-reads
 use Rattle.wire.proofs.write.put_header.Reads as put-header-reads
 
+-- names have 32 bytes
+size : (s : tie.Start) → length (s .args .t .high .name) ≡ 32
+size s = search needs
+
+cast-put-header : tie.Need-cast-put-header
+cast-put-header c = search needs
+
 put-header-requires : tie.Need-put-header-requires
 put-header-requires c κs = search needs
 
@@ -37,10 +44,6 @@ put-name-requires c κs = search needs
 same-length : tie.Need-same-length
 same-length c = search needs
 
--- names have 32 bytes
-size : (s : tie.Start) → length (s .args .t .high .name) ≡ 32
-size s = search needs
-
 returns : tie.Need-returns
 unfolding timeoutHead
 returns c =
@@ -59,6 +62,7 @@ pub put-timeout-head-spec : {M : Type 1} → statement M
 put-timeout-head-spec =
     tie.close
     (tie.spec
+    cast-put-header
     put-header-requires
     add-put-u64
     put-u64-requires

@@ -1,5 +1,5 @@
 {
-    'fn': 'run::tell',
+    'fn': 'run::report_call',
     'kit': 'walks',
     'local': 'Rattle.walks.proofs.Local',
     'types': {'settings': 'counters', 'wire': 'counters'},

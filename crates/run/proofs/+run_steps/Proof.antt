@@ -1,4 +1,4 @@
--- `run::play` meets its contract: a walk of its MIR. tools/walk.py wrote it from play.py. It calls itself: the method of `mutual-elim`, at the level.
+-- `run::run_steps` meets its contract: a walk of its MIR. tools/walk.py wrote it from run_steps.py. It calls itself: the method of `mutual-elim`, at the level.
 -- Assumes nothing.
 use Rattle.walks.proofs.Walk.{_≡_, refl, subst, ℕ, _<_, [], _∷_, List, length, URA, fullShare, named, w64, tyInt, tyBool, Val, vptr, SProp, ent, id⊢, emp, via, fst∗, GName, Lft, Share, ftrue, flft, Memory, Routine, Heap, Calls, Loops, WpFn, Tables, Atoms, Fun, givenOf, tables, tablesOf, Given, ‵, raw, _⊛_, _$_, _∵_, !, qed, move, drop, split, fsplit, keep, look, init, stop, hop, fld, from, load, addr, of-opd, and-then, no-more, assigns, returns, enter, alloc1, alloc0, params1}
 use Rattle.walks.proofs.Walk.{pass1, pass0, assigns-last, agg, whole, sub, look-in, FmC, fmOf, WpFn-mono, owns, Is, mem, u8, u64, MutRef, ptr-vals, mut-tells, sliceVal, MutSlice, Room, slice-vals, mut-slice-tells, plain, onEntry, tripleOf, Contract, Triple, calls-at, calls-from, calls-from-last, cited, Stays, stay-ref, stay-dropped, walkOf, AllGo, goes-dropped, goes-ref, walked-at, walk-meets-at, stay-slice, goes-slice, yes, true, false, mutual-elim, measured, at-on, Nat·lt-wfRel}
@@ -21,10 +21,10 @@ use Rattle.run.proofs.shallower.Met as shallower-thm
 use Rattle.run.proofs.step as step
 use Rattle.run.proofs.step.Symbol as step-def
 use Rattle.run.proofs.step.Met as step-thm
-use Rattle.run.proofs.play.Key.{name as #f}
-use Rattle.run.proofs.play as f
-use Rattle.run.proofs.+play as cycle
-use Rattle.run.proofs.+play.Code as code
+use Rattle.run.proofs.run_steps.Key.{name as #f}
+use Rattle.run.proofs.run_steps as f
+use Rattle.run.proofs.+run_steps as cycle
+use Rattle.run.proofs.+run_steps.Code as code
 
 abbrev stayed : Stays (f.ended .signature .params) (f.ended .kept)
 stayed = (stay-ref (0 ∷ []) tt (plain (λ _. Countersᴿ)), (stay-slice (1 ∷ []) tt (plain (λ _. u8)), (stay-slice (2 ∷ []) tt (plain (λ _. Blockᴿ)), (stay-slice (3 ∷ []) tt (plain (λ _. u8)), (stay-slice (4 ∷ []) tt (plain (λ _. u8)), (stay-dropped (plain (λ _. u64)) yes, (stay-dropped (plain (λ _. u64)) yes, tt)))))))
@@ -36,8 +36,8 @@ module _ {M : Type 1} (𝓤 : URA M) (H : Heap 𝓤) (A : Atoms 𝓤) (mem : Mem
   abbrev stepᶜ : Contract 𝓤
   stepᶜ = tripleOf 𝓤 H A step.signature (step.spec 𝓤 H A mem run)
 
-  abbrev playᶜ : Contract 𝓤
-  playᶜ = tripleOf 𝓤 H A f.signature (f.spec 𝓤 H A mem run)
+  abbrev run-stepsᶜ : Contract 𝓤
+  run-stepsᶜ = tripleOf 𝓤 H A f.signature (f.spec 𝓤 H A mem run)
 
   -- what is known of the callees
   abbrev Known : Calls 𝓤 H → Type 1
@@ -76,23 +76,23 @@ module _ {M : Type 1} (𝓤 : URA M) (H : Heap 𝓤) (A : Atoms 𝓤) (W : Given
   Post = walkOf 𝓤 H A f.ended stayed (f.clauses 𝓤 H A mem run) .post y
 
   walk : (C : Calls 𝓤 H) (Λ : Loops 𝓤 H) → FmC 𝓤 H (W .laws) C → Known 𝓤 H A mem run C
-      → ((y′ : playᶜ 𝓤 H A mem run .Ghost) → y′ .0 .3 .1 .1 .1 .1 .1 .0 < lv → ent 𝓤 (playᶜ 𝓤 H A mem run .pre y′) (C #f (playᶜ 𝓤 H A mem run .args y′) (playᶜ 𝓤 H A mem run .post y′)))
-      → ent 𝓤 (onEntry 𝓤 H A f.signature (κ0, (κ1, (κ2, (κ3, (κ4, tt))))) (q0, (q1, (q2, (q3, (q4, tt))))) (y .0 .3) (y .0 .4)) (WpFn 𝓤 H C Λ code.play-function (vptr cs-b cs-o ∷ m-s ∷ ys-s ∷ out-s ∷ rec-s ∷ (word .val lv) ∷ (word .val k) ∷ []) Post)
+      → ((y′ : run-stepsᶜ 𝓤 H A mem run .Ghost) → y′ .0 .3 .1 .1 .1 .1 .1 .0 < lv → ent 𝓤 (run-stepsᶜ 𝓤 H A mem run .pre y′) (C #f (run-stepsᶜ 𝓤 H A mem run .args y′) (run-stepsᶜ 𝓤 H A mem run .post y′)))
+      → ent 𝓤 (onEntry 𝓤 H A f.signature (κ0, (κ1, (κ2, (κ3, (κ4, tt))))) (q0, (q1, (q2, (q3, (q4, tt))))) (y .0 .3) (y .0 .4)) (WpFn 𝓤 H C Λ code.run-steps-function (vptr cs-b cs-o ∷ m-s ∷ ys-s ∷ out-s ∷ rec-s ∷ (word .val lv) ∷ (word .val k) ∷ []) Post)
   walk C Λ fm known self =
-      qed W ((‵ (flft κ0 q0) ⊛ (‵ (flft κ1 q1) ⊛ (‵ (flft κ2 q2) ⊛ (‵ (flft κ3 q3) ⊛ (‵ (flft κ4 q4) ⊛ ‵ ftrue))))) ∷ ‵ (owns (MutRef (named 0) κ0 Countersᴿ ∷ MutSlice (named 1) κ1 u8 ∷ MutSlice (named 2) κ2 Blockᴿ ∷ MutSlice (named 3) κ3 u8 ∷ MutSlice (named 4) κ4 u8 ∷ u64 ∷ u64 ∷ []) (y .0 .3) (y .0 .4)) ∷ []) ∵ enter ! C Λ code.play-function (vptr cs-b cs-o ∷ m-s ∷ ys-s ∷ out-s ∷ rec-s ∷ (word .val lv) ∷ (word .val k) ∷ []) _ $
+      qed W ((‵ (flft κ0 q0) ⊛ (‵ (flft κ1 q1) ⊛ (‵ (flft κ2 q2) ⊛ (‵ (flft κ3 q3) ⊛ (‵ (flft κ4 q4) ⊛ ‵ ftrue))))) ∷ ‵ (owns (MutRef (named 0) κ0 Countersᴿ ∷ MutSlice (named 1) κ1 u8 ∷ MutSlice (named 2) κ2 Blockᴿ ∷ MutSlice (named 3) κ3 u8 ∷ MutSlice (named 4) κ4 u8 ∷ u64 ∷ u64 ∷ []) (y .0 .3) (y .0 .4)) ∷ []) ∵ enter ! C Λ code.run-steps-function (vptr cs-b cs-o ∷ m-s ∷ ys-s ∷ out-s ∷ rec-s ∷ (word .val lv) ∷ (word .val k) ∷ []) _ $
       alloc1 ! (λ l₀. alloc1 ! (λ l₁. alloc1 ! (λ l₂. alloc1 ! (λ l₃. alloc1 ! (λ l₄. alloc1 ! (λ l₅. alloc1 ! (λ l₆. alloc1 ! (λ l₇. alloc1 ! (λ l₈. alloc1 ! (λ l₉. alloc1 ! (λ l₁₀. alloc1 ! (λ l₁₁. alloc1 ! (λ l₁₂. alloc1 ! (λ l₁₃. alloc1 ! (λ l₁₄. alloc1 ! (λ l₁₅. alloc1 ! (λ l₁₆. alloc1 ! (λ l₁₇. alloc1 ! (λ l₁₈. alloc1 ! (λ l₁₉. alloc1 ! (λ l₂₀. alloc1 ! (λ l₂₁. alloc1 ! (λ l₂₂. alloc1 ! (λ l₂₃. alloc1 ! (λ l₂₄. alloc1 ! (λ l₂₅. alloc1 ! (λ l₂₆. alloc1 ! (λ l₂₇. alloc1 ! (λ l₂₈. alloc1 ! (λ l₂₉. alloc1 ! (λ l₃₀. alloc1 ! (λ l₃₁. alloc1 ! (λ l₃₂. alloc1 ! (λ l₃₃. alloc1 ! (λ l₃₄. alloc1 ! (λ l₃₅. alloc1 ! (λ l₃₆. alloc1 ! (λ l₃₇. alloc1 ! (λ l₃₈. alloc1 ! (λ l₃₉. alloc0 ! $ params1 ! $ pass1 ! (init ! 76 refl (tt, tt)) $ pass1 ! (init ! 74 refl (tt, (tt, (record { fits = m-room .0 }, tt)))) $ pass1 ! (init ! 72 refl (tt, (tt, (record { fits = ys-room .0 }, tt)))) $ pass1 ! (init ! 70 refl (tt, (tt, (record { fits = out-room .0 }, tt)))) $ pass1 ! (init ! 68 refl (tt, (tt, (record { fits = rec-room .0 }, tt)))) $ pass1 ! (init ! 66 refl (fits W word lv lv-is .0)) $ pass1 ! (init ! 64 refl (fits W word k k-is .0)) $ pass0 ! $ move ! (80 ∷ []) $ split ! $ move ! (1 ∷ []) $ split ! $ move ! (1 ∷ []) $ split ! $ move ! (1 ∷ []) $ split ! $ move ! (1 ∷ []) $ split ! $ move ! (1 ∷ []) $ drop ! $ move ! (85 ∷ []) $ fsplit ! $ move ! (1 ∷ []) $ fsplit ! $ move ! (1 ∷ []) $ fsplit ! $ move ! (1 ∷ []) $ fsplit ! $ move ! (1 ∷ []) $ fsplit ! $ move ! (1 ∷ []) $ fsplit ! $ drop ! $ fsplit ! $ drop ! $ drop ! $
       -- call 0: `run::shallower`
       let y0 : shallowerᶜ 𝓤 H A mem run .Ghost = ((tt, tt, tt, (lv, (k, tt)), ((word .val lv) ∷ [], ((word .val k) ∷ [], tt))), tt) in asks ! shallower.ended (shallower.clauses 𝓤 H A mem run) y0 0 (of W word lv lv-is (of W word k k-is end)) refl (id⊢ 𝓤 _) $ calls-at ! fm (shallowerᶜ 𝓤 H A mem run) (known .0) y0 (and-then ! (load ! (from ! (stop !)) (look ! 77 refl)) (and-then ! (load ! (from ! (stop !)) (look ! 75 refl)) (no-more !))) (λ w0. came ! shallower.ended (shallower.clauses 𝓤 H A mem run) y0 w0 Depthᴰ 72 refl refl ([]) (λ r ws. r .goes ≡ true → r .level < lv) (λ r ws. id⊢ 𝓤 _) (λ r0 ws0 is0 e0. assigns ! (of-opd ! (load ! (from ! (fld ! {τ = tyBool} {d = 0} refl (stop !))) (look-in ! 72 {τ = tyBool} (sub ! 0 {τ = tyBool} {d = 0} refl (whole !))))) (from ! (stop !)) (init ! 66 refl (fits W flag (r0 .goes) (Depth-goes r0 is0) .0)) $ forks ! (load ! (from ! (stop !)) (look ! 66 refl))
       (λ joined0 on0 yes0. assigns ! (addr ! (from ! (hop ! (look ! 86 refl) (stop !)))) (from ! (stop !)) (init ! 62 refl (tt, tt)) $ assigns ! (addr ! (from ! (fld ! refl (hop ! (look-in ! 84 (sub ! 0 refl (whole !))) (stop !))))) (from ! (stop !)) (init ! 60 refl (tt, tt)) $ assigns ! (agg ! (and-then ! (load ! (from ! (stop !)) (look ! 60 refl)) (and-then ! (load ! (from ! (fld ! refl (stop !))) (look-in ! 84 (sub ! 1 refl (whole !)))) (no-more !)))) (from ! (stop !)) (init ! 58 refl (tt, (tt, (record { fits = m-room .0 }, tt)))) $ assigns ! (addr ! (from ! (fld ! refl (hop ! (look-in ! 82 (sub ! 0 refl (whole !))) (stop !))))) (from ! (stop !)) (init ! 56 refl (tt, tt)) $ assigns ! (agg ! (and-then ! (load ! (from ! (stop !)) (look ! 56 refl)) (and-then ! (load ! (from ! (fld ! refl (stop !))) (look-in ! 82 (sub ! 1 refl (whole !)))) (no-more !)))) (from ! (stop !)) (init ! 54 refl (tt, (tt, (record { fits = ys-room .0 }, tt)))) $ assigns ! (addr ! (from ! (fld ! refl (hop ! (look-in ! 80 (sub ! 0 refl (whole !))) (stop !))))) (from ! (stop !)) (init ! 52 refl (tt, tt)) $ assigns ! (agg ! (and-then ! (load ! (from ! (stop !)) (look ! 52 refl)) (and-then ! (load ! (from ! (fld ! refl (stop !))) (look-in ! 80 (sub ! 1 refl (whole !)))) (no-more !)))) (from ! (stop !)) (init ! 50 refl (tt, (tt, (record { fits = out-room .0 }, tt)))) $ assigns ! (addr ! (from ! (fld ! refl (hop ! (look-in ! 78 (sub ! 0 refl (whole !))) (stop !))))) (from ! (stop !)) (init ! 48 refl (tt, tt)) $ assigns ! (agg ! (and-then ! (load ! (from ! (stop !)) (look ! 48 refl)) (and-then ! (load ! (from ! (fld ! refl (stop !))) (look-in ! 78 (sub ! 1 refl (whole !)))) (no-more !)))) (from ! (stop !)) (init ! 46 refl (tt, (tt, (record { fits = rec-room .0 }, tt)))) $
-      -- call 1: `run::play`
+      -- call 1: `run::run_steps`
       move ! (4 ∷ 9 ∷ []) $ lend-ref ! tt Countersᴿ cs-b cs-o cs (λ ν1-0 δ1-0. move ! (6 ∷ 10 ∷ []) $ lend-mut ! tt u8 m-b m-o m-n m refl (λ ν1-1 δ1-1. move ! (8 ∷ 11 ∷ []) $ lend-mut ! tt Blockᴿ ys-b ys-o ys-n ys refl (λ ν1-2 δ1-2. move ! (10 ∷ 12 ∷ []) $ lend-mut ! tt u8 out-b out-o out-n out refl (λ ν1-3 δ1-3. move ! (12 ∷ 13 ∷ []) $ lend-mut ! tt u8 rec-b rec-o rec-n rec refl (λ ν1-4 δ1-4.
-      let y1 : playᶜ 𝓤 H A mem run .Ghost = ((((ν1-0 ∷ []), ((ν1-1 ∷ []), ((ν1-2 ∷ []), ((ν1-3 ∷ []), ((ν1-4 ∷ []), tt))))), (fullShare, (fullShare, (fullShare, (fullShare, (fullShare, tt))))), tt, (pointing Countersᴿ cs-b cs-o δ1-0 cs, (lying u8 m-b m-o δ1-1 m, (lying Blockᴿ ys-b ys-o δ1-2 ys, (lying u8 out-b out-o δ1-3 out, (lying u8 rec-b rec-o δ1-4 rec, ((r0 .level), (k, tt))))))), (vptr cs-b cs-o ∷ [], (m-s ∷ [], (ys-s ∷ [], (out-s ∷ [], (rec-s ∷ [], ((word .val (r0 .level)) ∷ [], ((word .val k) ∷ [], tt)))))))), tt) in move ! (12 ∷ 9 ∷ 6 ∷ 3 ∷ 0 ∷ 13 ∷ 10 ∷ 7 ∷ 4 ∷ 1 ∷ []) $ asks ! f.ended (f.clauses 𝓤 H A mem run) y1 10 (held (held (held (held (held (of W word (r0 .level) (Depth-level r0 is0) (of W word k k-is end))))))) refl (id⊢ 𝓤 _) $ calls-from ! fm (raw (playᶜ 𝓤 H A mem run .pre y1)) (playᶜ 𝓤 H A mem run .args y1) (playᶜ 𝓤 H A mem run .post y1) (self y1 (e0 (is-true (r0 .goes) yes0))) (and-then ! (load ! (from ! (stop !)) (look ! 58 refl)) (and-then ! (load ! (from ! (stop !)) (look ! 54 refl)) (and-then ! (load ! (from ! (stop !)) (look ! 50 refl)) (and-then ! (load ! (from ! (stop !)) (look ! 46 refl)) (and-then ! (load ! (from ! (stop !)) (look ! 42 refl)) (and-then ! (load ! (from ! (fld ! {τ = tyInt w64} {d = 8} refl (stop !))) (look-in ! 68 {τ = tyInt w64} (sub ! 1 {τ = tyInt w64} {d = 8} refl (whole !)))) (and-then ! (load ! (from ! (stop !)) (look ! 70 refl)) (no-more !)))))))) (λ w1. came ! f.ended (f.clauses 𝓤 H A mem run) y1 w1 word 65 refl refl (true ∷ true ∷ true ∷ true ∷ true ∷ false ∷ false ∷ []) (λ r ws. Runs (lentTo cs m ys) (lentTo (ws .0) (ws .1 .0) (ws .1 .1 .0))) (λ r ws. id⊢ 𝓤 _) (λ r1 ws1 is1 e1. move ! (0 ∷ 5 ∷ 14 ∷ []) $ back-ref ! tt Countersᴿ cs-b cs-o cs (ws1 .0) $ move ! (2 ∷ 6 ∷ 13 ∷ []) $ back-again ! tt u8 m-b m-o m-n m (ws1 .1 .0) m-room refl (λ l1-1. move ! (4 ∷ 7 ∷ 12 ∷ []) $ back-again ! tt Blockᴿ ys-b ys-o ys-n ys (ws1 .1 .1 .0) ys-room refl (λ l1-2. move ! (6 ∷ 8 ∷ 11 ∷ []) $ back-again ! tt u8 out-b out-o out-n out (ws1 .1 .1 .1 .0) out-room refl (λ l1-3. move ! (8 ∷ 9 ∷ 10 ∷ []) $ back-again ! tt u8 rec-b rec-o rec-n rec (ws1 .1 .1 .1 .1 .0) rec-room refl (λ l1-4. assigns ! (addr ! (from ! (hop ! (look ! 86 refl) (stop !)))) (from ! (stop !)) (init ! 44 refl (tt, tt)) $ assigns ! (addr ! (from ! (fld ! refl (hop ! (look-in ! 84 (sub ! 0 refl (whole !))) (stop !))))) (from ! (stop !)) (init ! 42 refl (tt, tt)) $ assigns ! (agg ! (and-then ! (load ! (from ! (stop !)) (look ! 42 refl)) (and-then ! (load ! (from ! (fld ! refl (stop !))) (look-in ! 84 (sub ! 1 refl (whole !)))) (no-more !)))) (from ! (stop !)) (init ! 40 refl (tt, (tt, (record { fits = m-room .0 }, tt)))) $ assigns ! (addr ! (from ! (fld ! refl (hop ! (look-in ! 82 (sub ! 0 refl (whole !))) (stop !))))) (from ! (stop !)) (init ! 38 refl (tt, tt)) $ assigns ! (agg ! (and-then ! (load ! (from ! (stop !)) (look ! 38 refl)) (and-then ! (load ! (from ! (fld ! refl (stop !))) (look-in ! 82 (sub ! 1 refl (whole !)))) (no-more !)))) (from ! (stop !)) (init ! 36 refl (tt, (tt, (record { fits = ys-room .0 }, tt)))) $ assigns ! (addr ! (from ! (fld ! refl (hop ! (look-in ! 80 (sub ! 0 refl (whole !))) (stop !))))) (from ! (stop !)) (init ! 34 refl (tt, tt)) $ assigns ! (agg ! (and-then ! (load ! (from ! (stop !)) (look ! 34 refl)) (and-then ! (load ! (from ! (fld ! refl (stop !))) (look-in ! 80 (sub ! 1 refl (whole !)))) (no-more !)))) (from ! (stop !)) (init ! 32 refl (tt, (tt, (record { fits = out-room .0 }, tt)))) $ assigns ! (addr ! (from ! (fld ! refl (hop ! (look-in ! 78 (sub ! 0 refl (whole !))) (stop !))))) (from ! (stop !)) (init ! 30 refl (tt, tt)) $ assigns ! (agg ! (and-then ! (load ! (from ! (stop !)) (look ! 30 refl)) (and-then ! (load ! (from ! (fld ! refl (stop !))) (look-in ! 78 (sub ! 1 refl (whole !)))) (no-more !)))) (from ! (stop !)) (init ! 28 refl (tt, (tt, (record { fits = rec-room .0 }, tt)))) $
+      let y1 : run-stepsᶜ 𝓤 H A mem run .Ghost = ((((ν1-0 ∷ []), ((ν1-1 ∷ []), ((ν1-2 ∷ []), ((ν1-3 ∷ []), ((ν1-4 ∷ []), tt))))), (fullShare, (fullShare, (fullShare, (fullShare, (fullShare, tt))))), tt, (pointing Countersᴿ cs-b cs-o δ1-0 cs, (lying u8 m-b m-o δ1-1 m, (lying Blockᴿ ys-b ys-o δ1-2 ys, (lying u8 out-b out-o δ1-3 out, (lying u8 rec-b rec-o δ1-4 rec, ((r0 .level), (k, tt))))))), (vptr cs-b cs-o ∷ [], (m-s ∷ [], (ys-s ∷ [], (out-s ∷ [], (rec-s ∷ [], ((word .val (r0 .level)) ∷ [], ((word .val k) ∷ [], tt)))))))), tt) in move ! (12 ∷ 9 ∷ 6 ∷ 3 ∷ 0 ∷ 13 ∷ 10 ∷ 7 ∷ 4 ∷ 1 ∷ []) $ asks ! f.ended (f.clauses 𝓤 H A mem run) y1 10 (held (held (held (held (held (of W word (r0 .level) (Depth-level r0 is0) (of W word k k-is end))))))) refl (id⊢ 𝓤 _) $ calls-from ! fm (raw (run-stepsᶜ 𝓤 H A mem run .pre y1)) (run-stepsᶜ 𝓤 H A mem run .args y1) (run-stepsᶜ 𝓤 H A mem run .post y1) (self y1 (e0 (is-true (r0 .goes) yes0))) (and-then ! (load ! (from ! (stop !)) (look ! 58 refl)) (and-then ! (load ! (from ! (stop !)) (look ! 54 refl)) (and-then ! (load ! (from ! (stop !)) (look ! 50 refl)) (and-then ! (load ! (from ! (stop !)) (look ! 46 refl)) (and-then ! (load ! (from ! (stop !)) (look ! 42 refl)) (and-then ! (load ! (from ! (fld ! {τ = tyInt w64} {d = 8} refl (stop !))) (look-in ! 68 {τ = tyInt w64} (sub ! 1 {τ = tyInt w64} {d = 8} refl (whole !)))) (and-then ! (load ! (from ! (stop !)) (look ! 70 refl)) (no-more !)))))))) (λ w1. came ! f.ended (f.clauses 𝓤 H A mem run) y1 w1 word 65 refl refl (true ∷ true ∷ true ∷ true ∷ true ∷ false ∷ false ∷ []) (λ r ws. Runs (lentTo cs m ys) (lentTo (ws .0) (ws .1 .0) (ws .1 .1 .0))) (λ r ws. id⊢ 𝓤 _) (λ r1 ws1 is1 e1. move ! (0 ∷ 5 ∷ 14 ∷ []) $ back-ref ! tt Countersᴿ cs-b cs-o cs (ws1 .0) $ move ! (2 ∷ 6 ∷ 13 ∷ []) $ back-again ! tt u8 m-b m-o m-n m (ws1 .1 .0) m-room refl (λ l1-1. move ! (4 ∷ 7 ∷ 12 ∷ []) $ back-again ! tt Blockᴿ ys-b ys-o ys-n ys (ws1 .1 .1 .0) ys-room refl (λ l1-2. move ! (6 ∷ 8 ∷ 11 ∷ []) $ back-again ! tt u8 out-b out-o out-n out (ws1 .1 .1 .1 .0) out-room refl (λ l1-3. move ! (8 ∷ 9 ∷ 10 ∷ []) $ back-again ! tt u8 rec-b rec-o rec-n rec (ws1 .1 .1 .1 .1 .0) rec-room refl (λ l1-4. assigns ! (addr ! (from ! (hop ! (look ! 86 refl) (stop !)))) (from ! (stop !)) (init ! 44 refl (tt, tt)) $ assigns ! (addr ! (from ! (fld ! refl (hop ! (look-in ! 84 (sub ! 0 refl (whole !))) (stop !))))) (from ! (stop !)) (init ! 42 refl (tt, tt)) $ assigns ! (agg ! (and-then ! (load ! (from ! (stop !)) (look ! 42 refl)) (and-then ! (load ! (from ! (fld ! refl (stop !))) (look-in ! 84 (sub ! 1 refl (whole !)))) (no-more !)))) (from ! (stop !)) (init ! 40 refl (tt, (tt, (record { fits = m-room .0 }, tt)))) $ assigns ! (addr ! (from ! (fld ! refl (hop ! (look-in ! 82 (sub ! 0 refl (whole !))) (stop !))))) (from ! (stop !)) (init ! 38 refl (tt, tt)) $ assigns ! (agg ! (and-then ! (load ! (from ! (stop !)) (look ! 38 refl)) (and-then ! (load ! (from ! (fld ! refl (stop !))) (look-in ! 82 (sub ! 1 refl (whole !)))) (no-more !)))) (from ! (stop !)) (init ! 36 refl (tt, (tt, (record { fits = ys-room .0 }, tt)))) $ assigns ! (addr ! (from ! (fld ! refl (hop ! (look-in ! 80 (sub ! 0 refl (whole !))) (stop !))))) (from ! (stop !)) (init ! 34 refl (tt, tt)) $ assigns ! (agg ! (and-then ! (load ! (from ! (stop !)) (look ! 34 refl)) (and-then ! (load ! (from ! (fld ! refl (stop !))) (look-in ! 80 (sub ! 1 refl (whole !)))) (no-more !)))) (from ! (stop !)) (init ! 32 refl (tt, (tt, (record { fits = out-room .0 }, tt)))) $ assigns ! (addr ! (from ! (fld ! refl (hop ! (look-in ! 78 (sub ! 0 refl (whole !))) (stop !))))) (from ! (stop !)) (init ! 30 refl (tt, tt)) $ assigns ! (agg ! (and-then ! (load ! (from ! (stop !)) (look ! 30 refl)) (and-then ! (load ! (from ! (fld ! refl (stop !))) (look-in ! 78 (sub ! 1 refl (whole !)))) (no-more !)))) (from ! (stop !)) (init ! 28 refl (tt, (tt, (record { fits = rec-room .0 }, tt)))) $
       -- call 2: `run::step`
       move ! (8 ∷ 9 ∷ []) $ lend-ref ! tt Countersᴿ cs-b cs-o (ws1 .0) (λ ν2-0 δ2-0. move ! (9 ∷ 10 ∷ []) $ lend-mut ! tt u8 m-b m-o m-n (ws1 .1 .0) l1-1 (λ ν2-1 δ2-1. move ! (10 ∷ 11 ∷ []) $ lend-mut ! tt Blockᴿ ys-b ys-o ys-n (ws1 .1 .1 .0) l1-2 (λ ν2-2 δ2-2. move ! (11 ∷ 12 ∷ []) $ lend-mut ! tt u8 out-b out-o out-n (ws1 .1 .1 .1 .0) l1-3 (λ ν2-3 δ2-3. move ! (12 ∷ 13 ∷ []) $ lend-mut ! tt u8 rec-b rec-o rec-n (ws1 .1 .1 .1 .1 .0) l1-4 (λ ν2-4 δ2-4.
       let y2 : stepᶜ 𝓤 H A mem run .Ghost = ((((ν2-0 ∷ []), ((ν2-1 ∷ []), ((ν2-2 ∷ []), ((ν2-3 ∷ []), ((ν2-4 ∷ []), tt))))), (fullShare, (fullShare, (fullShare, (fullShare, (fullShare, tt))))), tt, (pointing Countersᴿ cs-b cs-o δ2-0 (ws1 .0), (lying u8 m-b m-o δ2-1 (ws1 .1 .0), (lying Blockᴿ ys-b ys-o δ2-2 (ws1 .1 .1 .0), (lying u8 out-b out-o δ2-3 (ws1 .1 .1 .1 .0), (lying u8 rec-b rec-o δ2-4 (ws1 .1 .1 .1 .1 .0), (r1, tt)))))), (vptr cs-b cs-o ∷ [], (m-s ∷ [], (ys-s ∷ [], (out-s ∷ [], (rec-s ∷ [], ((word .val r1) ∷ [], tt))))))), tt) in move ! (12 ∷ 9 ∷ 6 ∷ 3 ∷ 0 ∷ 13 ∷ 10 ∷ 7 ∷ 4 ∷ 1 ∷ []) $ asks ! step.ended (step.clauses 𝓤 H A mem run) y2 10 (held (held (held (held (held (of W word r1 is1 end)))))) refl (id⊢ 𝓤 _) $ calls-at ! fm (stepᶜ 𝓤 H A mem run) (known .1) y2 (and-then ! (load ! (from ! (stop !)) (look ! 40 refl)) (and-then ! (load ! (from ! (stop !)) (look ! 36 refl)) (and-then ! (load ! (from ! (stop !)) (look ! 32 refl)) (and-then ! (load ! (from ! (stop !)) (look ! 28 refl)) (and-then ! (load ! (from ! (stop !)) (look ! 24 refl)) (and-then ! (load ! (from ! (stop !)) (look ! 66 refl)) (no-more !))))))) (λ w2. came ! step.ended (step.clauses 𝓤 H A mem run) y2 w2 word 63 refl refl (true ∷ true ∷ true ∷ true ∷ true ∷ false ∷ []) (λ r ws. Runs (lentTo (ws1 .0) (ws1 .1 .0) (ws1 .1 .1 .0)) (lentTo (ws .0) (ws .1 .0) (ws .1 .1 .0))) (λ r ws. id⊢ 𝓤 _) (λ r2 ws2 is2 e2. move ! (0 ∷ 5 ∷ 14 ∷ []) $ back-ref ! tt Countersᴿ cs-b cs-o (ws1 .0) (ws2 .0) $ move ! (2 ∷ 6 ∷ 13 ∷ []) $ back-again ! tt u8 m-b m-o m-n (ws1 .1 .0) (ws2 .1 .0) m-room l1-1 (λ l2-1. move ! (4 ∷ 7 ∷ 12 ∷ []) $ back-again ! tt Blockᴿ ys-b ys-o ys-n (ws1 .1 .1 .0) (ws2 .1 .1 .0) ys-room l1-2 (λ l2-2. move ! (6 ∷ 8 ∷ 11 ∷ []) $ back-again ! tt u8 out-b out-o out-n (ws1 .1 .1 .1 .0) (ws2 .1 .1 .1 .0) out-room l1-3 (λ l2-3. move ! (8 ∷ 9 ∷ 10 ∷ []) $ back-again ! tt u8 rec-b rec-o rec-n (ws1 .1 .1 .1 .1 .0) (ws2 .1 .1 .1 .1 .0) rec-room l1-4 (λ l2-4. assigns ! (addr ! (from ! (hop ! (look ! 86 refl) (stop !)))) (from ! (stop !)) (init ! 26 refl (tt, tt)) $ assigns ! (addr ! (from ! (fld ! refl (hop ! (look-in ! 84 (sub ! 0 refl (whole !))) (stop !))))) (from ! (stop !)) (init ! 24 refl (tt, tt)) $ assigns ! (agg ! (and-then ! (load ! (from ! (stop !)) (look ! 24 refl)) (and-then ! (load ! (from ! (fld ! refl (stop !))) (look-in ! 84 (sub ! 1 refl (whole !)))) (no-more !)))) (from ! (stop !)) (init ! 22 refl (tt, (tt, (record { fits = m-room .0 }, tt)))) $ assigns ! (addr ! (from ! (fld ! refl (hop ! (look-in ! 82 (sub ! 0 refl (whole !))) (stop !))))) (from ! (stop !)) (init ! 20 refl (tt, tt)) $ assigns ! (agg ! (and-then ! (load ! (from ! (stop !)) (look ! 20 refl)) (and-then ! (load ! (from ! (fld ! refl (stop !))) (look-in ! 82 (sub ! 1 refl (whole !)))) (no-more !)))) (from ! (stop !)) (init ! 18 refl (tt, (tt, (record { fits = ys-room .0 }, tt)))) $ assigns ! (addr ! (from ! (fld ! refl (hop ! (look-in ! 80 (sub ! 0 refl (whole !))) (stop !))))) (from ! (stop !)) (init ! 16 refl (tt, tt)) $ assigns ! (agg ! (and-then ! (load ! (from ! (stop !)) (look ! 16 refl)) (and-then ! (load ! (from ! (fld ! refl (stop !))) (look-in ! 80 (sub ! 1 refl (whole !)))) (no-more !)))) (from ! (stop !)) (init ! 14 refl (tt, (tt, (record { fits = out-room .0 }, tt)))) $ assigns ! (addr ! (from ! (fld ! refl (hop ! (look-in ! 78 (sub ! 0 refl (whole !))) (stop !))))) (from ! (stop !)) (init ! 12 refl (tt, tt)) $ assigns ! (agg ! (and-then ! (load ! (from ! (stop !)) (look ! 12 refl)) (and-then ! (load ! (from ! (fld ! refl (stop !))) (look-in ! 78 (sub ! 1 refl (whole !)))) (no-more !)))) (from ! (stop !)) (init ! 10 refl (tt, (tt, (record { fits = rec-room .0 }, tt)))) $
-      -- call 3: `run::play`
+      -- call 3: `run::run_steps`
       move ! (8 ∷ 9 ∷ []) $ lend-ref ! tt Countersᴿ cs-b cs-o (ws2 .0) (λ ν3-0 δ3-0. move ! (9 ∷ 10 ∷ []) $ lend-mut ! tt u8 m-b m-o m-n (ws2 .1 .0) l2-1 (λ ν3-1 δ3-1. move ! (10 ∷ 11 ∷ []) $ lend-mut ! tt Blockᴿ ys-b ys-o ys-n (ws2 .1 .1 .0) l2-2 (λ ν3-2 δ3-2. move ! (11 ∷ 12 ∷ []) $ lend-mut ! tt u8 out-b out-o out-n (ws2 .1 .1 .1 .0) l2-3 (λ ν3-3 δ3-3. move ! (12 ∷ 13 ∷ []) $ lend-mut ! tt u8 rec-b rec-o rec-n (ws2 .1 .1 .1 .1 .0) l2-4 (λ ν3-4 δ3-4.
-      let y3 : playᶜ 𝓤 H A mem run .Ghost = ((((ν3-0 ∷ []), ((ν3-1 ∷ []), ((ν3-2 ∷ []), ((ν3-3 ∷ []), ((ν3-4 ∷ []), tt))))), (fullShare, (fullShare, (fullShare, (fullShare, (fullShare, tt))))), tt, (pointing Countersᴿ cs-b cs-o δ3-0 (ws2 .0), (lying u8 m-b m-o δ3-1 (ws2 .1 .0), (lying Blockᴿ ys-b ys-o δ3-2 (ws2 .1 .1 .0), (lying u8 out-b out-o δ3-3 (ws2 .1 .1 .1 .0), (lying u8 rec-b rec-o δ3-4 (ws2 .1 .1 .1 .1 .0), ((r0 .level), (r2, tt))))))), (vptr cs-b cs-o ∷ [], (m-s ∷ [], (ys-s ∷ [], (out-s ∷ [], (rec-s ∷ [], ((word .val (r0 .level)) ∷ [], ((word .val r2) ∷ [], tt)))))))), tt) in move ! (12 ∷ 9 ∷ 6 ∷ 3 ∷ 0 ∷ 13 ∷ 10 ∷ 7 ∷ 4 ∷ 1 ∷ []) $ asks ! f.ended (f.clauses 𝓤 H A mem run) y3 10 (held (held (held (held (held (of W word (r0 .level) (Depth-level r0 is0) (of W word r2 is2 end))))))) refl (id⊢ 𝓤 _) $ calls-from-last ! fm (raw (playᶜ 𝓤 H A mem run .pre y3)) (playᶜ 𝓤 H A mem run .args y3) (playᶜ 𝓤 H A mem run .post y3) (self y3 (e0 (is-true (r0 .goes) yes0))) (and-then ! (load ! (from ! (stop !)) (look ! 22 refl)) (and-then ! (load ! (from ! (stop !)) (look ! 18 refl)) (and-then ! (load ! (from ! (stop !)) (look ! 14 refl)) (and-then ! (load ! (from ! (stop !)) (look ! 10 refl)) (and-then ! (load ! (from ! (stop !)) (look ! 6 refl)) (and-then ! (load ! (from ! (fld ! {τ = tyInt w64} {d = 8} refl (stop !))) (look-in ! 68 {τ = tyInt w64} (sub ! 1 {τ = tyInt w64} {d = 8} refl (whole !)))) (and-then ! (load ! (from ! (stop !)) (look ! 64 refl)) (no-more !)))))))) (λ w3. came-last ! f.ended (f.clauses 𝓤 H A mem run) y3 w3 word 59 refl refl (true ∷ true ∷ true ∷ true ∷ true ∷ false ∷ false ∷ []) (λ r ws. Runs (lentTo (ws2 .0) (ws2 .1 .0) (ws2 .1 .1 .0)) (lentTo (ws .0) (ws .1 .0) (ws .1 .1 .0))) (λ r ws. id⊢ 𝓤 _) (λ r3 ws3 is3 e3. on0 _ $ move ! (0 ∷ 5 ∷ 14 ∷ []) $ back-ref ! tt Countersᴿ cs-b cs-o (ws2 .0) (ws3 .0) $ move ! (2 ∷ 6 ∷ 13 ∷ []) $ back-again ! tt u8 m-b m-o m-n (ws2 .1 .0) (ws3 .1 .0) m-room l2-1 (λ l3-1. move ! (4 ∷ 7 ∷ 12 ∷ []) $ back-again ! tt Blockᴿ ys-b ys-o ys-n (ws2 .1 .1 .0) (ws3 .1 .1 .0) ys-room l2-2 (λ l3-2. move ! (6 ∷ 8 ∷ 11 ∷ []) $ back-again ! tt u8 out-b out-o out-n (ws2 .1 .1 .1 .0) (ws3 .1 .1 .1 .0) out-room l2-3 (λ l3-3. move ! (8 ∷ 9 ∷ 10 ∷ []) $ back-again ! tt u8 rec-b rec-o rec-n (ws2 .1 .1 .1 .1 .0) (ws3 .1 .1 .1 .1 .0) rec-room l2-4 (λ l3-4. assigns ! (of-opd ! (load ! (from ! (stop !)) (look ! 64 refl))) (from ! (stop !)) (init ! 88 refl (fits W word r3 is3 .0)) $
+      let y3 : run-stepsᶜ 𝓤 H A mem run .Ghost = ((((ν3-0 ∷ []), ((ν3-1 ∷ []), ((ν3-2 ∷ []), ((ν3-3 ∷ []), ((ν3-4 ∷ []), tt))))), (fullShare, (fullShare, (fullShare, (fullShare, (fullShare, tt))))), tt, (pointing Countersᴿ cs-b cs-o δ3-0 (ws2 .0), (lying u8 m-b m-o δ3-1 (ws2 .1 .0), (lying Blockᴿ ys-b ys-o δ3-2 (ws2 .1 .1 .0), (lying u8 out-b out-o δ3-3 (ws2 .1 .1 .1 .0), (lying u8 rec-b rec-o δ3-4 (ws2 .1 .1 .1 .1 .0), ((r0 .level), (r2, tt))))))), (vptr cs-b cs-o ∷ [], (m-s ∷ [], (ys-s ∷ [], (out-s ∷ [], (rec-s ∷ [], ((word .val (r0 .level)) ∷ [], ((word .val r2) ∷ [], tt)))))))), tt) in move ! (12 ∷ 9 ∷ 6 ∷ 3 ∷ 0 ∷ 13 ∷ 10 ∷ 7 ∷ 4 ∷ 1 ∷ []) $ asks ! f.ended (f.clauses 𝓤 H A mem run) y3 10 (held (held (held (held (held (of W word (r0 .level) (Depth-level r0 is0) (of W word r2 is2 end))))))) refl (id⊢ 𝓤 _) $ calls-from-last ! fm (raw (run-stepsᶜ 𝓤 H A mem run .pre y3)) (run-stepsᶜ 𝓤 H A mem run .args y3) (run-stepsᶜ 𝓤 H A mem run .post y3) (self y3 (e0 (is-true (r0 .goes) yes0))) (and-then ! (load ! (from ! (stop !)) (look ! 22 refl)) (and-then ! (load ! (from ! (stop !)) (look ! 18 refl)) (and-then ! (load ! (from ! (stop !)) (look ! 14 refl)) (and-then ! (load ! (from ! (stop !)) (look ! 10 refl)) (and-then ! (load ! (from ! (stop !)) (look ! 6 refl)) (and-then ! (load ! (from ! (fld ! {τ = tyInt w64} {d = 8} refl (stop !))) (look-in ! 68 {τ = tyInt w64} (sub ! 1 {τ = tyInt w64} {d = 8} refl (whole !)))) (and-then ! (load ! (from ! (stop !)) (look ! 64 refl)) (no-more !)))))))) (λ w3. came-last ! f.ended (f.clauses 𝓤 H A mem run) y3 w3 word 59 refl refl (true ∷ true ∷ true ∷ true ∷ true ∷ false ∷ false ∷ []) (λ r ws. Runs (lentTo (ws2 .0) (ws2 .1 .0) (ws2 .1 .1 .0)) (lentTo (ws .0) (ws .1 .0) (ws .1 .1 .0))) (λ r ws. id⊢ 𝓤 _) (λ r3 ws3 is3 e3. on0 _ $ move ! (0 ∷ 5 ∷ 14 ∷ []) $ back-ref ! tt Countersᴿ cs-b cs-o (ws2 .0) (ws3 .0) $ move ! (2 ∷ 6 ∷ 13 ∷ []) $ back-again ! tt u8 m-b m-o m-n (ws2 .1 .0) (ws3 .1 .0) m-room l2-1 (λ l3-1. move ! (4 ∷ 7 ∷ 12 ∷ []) $ back-again ! tt Blockᴿ ys-b ys-o ys-n (ws2 .1 .1 .0) (ws3 .1 .1 .0) ys-room l2-2 (λ l3-2. move ! (6 ∷ 8 ∷ 11 ∷ []) $ back-again ! tt u8 out-b out-o out-n (ws2 .1 .1 .1 .0) (ws3 .1 .1 .1 .0) out-room l2-3 (λ l3-3. move ! (8 ∷ 9 ∷ 10 ∷ []) $ back-again ! tt u8 rec-b rec-o rec-n (ws2 .1 .1 .1 .1 .0) (ws3 .1 .1 .1 .1 .0) rec-room l2-4 (λ l3-4. assigns ! (of-opd ! (load ! (from ! (stop !)) (look ! 64 refl))) (from ! (stop !)) (init ! 88 refl (fits W word r3 is3 .0)) $
       -- the exit
       returns ! (look ! 88 refl) $ leave ! 10 (full _ ∷ full _ ∷ full _ ∷ full _ ∷ full _ ∷ full _ ∷ full _ ∷ full _ ∷ full _ ∷ full _ ∷ full _ ∷ full _ ∷ full _ ∷ full _ ∷ full _ ∷ full _ ∷ full _ ∷ full _ ∷ full _ ∷ full _ ∷ full _ ∷ full _ ∷ full _ ∷ full _ ∷ full _ ∷ full _ ∷ full _ ∷ full _ ∷ full _ ∷ full _ ∷ full _ ∷ full _ ∷ full _ ∷ full _ ∷ full _ ∷ full _ ∷ full _ ∷ full _ ∷ full _ ∷ full _ ∷ []) refl $ keep ! (9 ∷ 7 ∷ 5 ∷ 3 ∷ 1 ∷ 8 ∷ 6 ∷ 4 ∷ 2 ∷ 0 ∷ []) $ ends W f.ended stayed (f.clauses 𝓤 H A mem run) y (word .val r3) r3 ((ws3 .0), ((ws3 .1 .0), ((ws3 .1 .1 .0), ((ws3 .1 .1 .1 .0), ((ws3 .1 .1 .1 .1 .0), (tt, (tt, tt))))))) (tt, (l3-1, (l3-2, (l3-3, (l3-4, (tt, (tt, tt))))))) (word .makes 𝓤 H A W r3 _ is3) (so 𝓤 (together (together e1 e2) e3)) (held (held (held (held (held (made (id⊢ 𝓤 _) (made (id⊢ 𝓤 _) end)))))))))))))))))))))))))))))))))))))))))
       (λ joined0 on0 no0. assigns-last ! (of-opd ! (load ! (from ! (stop !)) (look ! 74 refl))) (from ! (stop !)) (init ! 64 refl (fits W word k k-is .0)) $ on0 _ $ assigns ! (of-opd ! (load ! (from ! (stop !)) (look ! 64 refl))) (from ! (stop !)) (init ! 88 refl (fits W word k k-is .0)) $
@@ -104,21 +104,21 @@ module _ {M : Type 1} (𝓤 : URA M) (H : Heap 𝓤) (A : Atoms 𝓤) (W : Given
   goes = (goes-ref 𝓤 H A W 5 0 tt (plain (λ _. Countersᴿ)), (goes-slice 𝓤 H A W 5 1 tt (plain (λ _. u8)), (goes-slice 𝓤 H A W 5 2 tt (plain (λ _. Blockᴿ)), (goes-slice 𝓤 H A W 5 3 tt (plain (λ _. u8)), (goes-slice 𝓤 H A W 5 4 tt (plain (λ _. u8)), (goes-dropped 𝓤 H A W 5 (plain (λ _. u64)) yes (λ κs x f. refl), (goes-dropped 𝓤 H A W 5 (plain (λ _. u64)) yes (λ κs x f. refl), tt)))))))
 
   -- the contract at one choice of what the triple binds outside, from the contract where the measure is less
-  meets-at : (𝓣 : Tables 𝓤 H) → Known 𝓤 H A mem run (𝓣 .C) → (y : playᶜ 𝓤 H A mem run .Ghost)
-      → ((y′ : playᶜ 𝓤 H A mem run .Ghost) → y′ .0 .3 .1 .1 .1 .1 .1 .0 < y .0 .3 .1 .1 .1 .1 .1 .0 → ent 𝓤 (playᶜ 𝓤 H A mem run .pre y′) (𝓣 .C #f (playᶜ 𝓤 H A mem run .args y′) (playᶜ 𝓤 H A mem run .post y′)))
-      → ent 𝓤 (playᶜ 𝓤 H A mem run .pre y) (WpFn 𝓤 H (𝓣 .C) (𝓣 .Λ) code.play-function (playᶜ 𝓤 H A mem run .args y) (playᶜ 𝓤 H A mem run .post y))
+  meets-at : (𝓣 : Tables 𝓤 H) → Known 𝓤 H A mem run (𝓣 .C) → (y : run-stepsᶜ 𝓤 H A mem run .Ghost)
+      → ((y′ : run-stepsᶜ 𝓤 H A mem run .Ghost) → y′ .0 .3 .1 .1 .1 .1 .1 .0 < y .0 .3 .1 .1 .1 .1 .1 .0 → ent 𝓤 (run-stepsᶜ 𝓤 H A mem run .pre y′) (𝓣 .C #f (run-stepsᶜ 𝓤 H A mem run .args y′) (run-stepsᶜ 𝓤 H A mem run .post y′)))
+      → ent 𝓤 (run-stepsᶜ 𝓤 H A mem run .pre y) (WpFn 𝓤 H (𝓣 .C) (𝓣 .Λ) code.run-steps-function (run-stepsᶜ 𝓤 H A mem run .args y) (run-stepsᶜ 𝓤 H A mem run .post y))
   meets-at 𝓣 known y self =
       let κs = y .0 .0 in let qs = y .0 .1 in let a = y .0 .3 in
-      walk-meets-at 𝓤 H A f.ended stayed W goes (f.clauses 𝓤 H A mem run) (WpFn 𝓤 H (𝓣 .C) (𝓣 .Λ) code.play-function) (WpFn-mono 𝓤 H (W .laws) 𝓣 code.play-function) y
-      (walked-at 𝓤 H A f.ended stayed (f.clauses 𝓤 H A mem run) (WpFn 𝓤 H (𝓣 .C) (𝓣 .Λ) code.play-function) y (ptr-vals, (slice-vals, (slice-vals, (slice-vals, (slice-vals, ((λ x. word .val x ∷ []), ((λ x. word .val x ∷ []), tt))))))) (mut-tells (named 0) (κs .0) Countersᴿ, (mut-slice-tells (named 1) (κs .1 .0) u8, (mut-slice-tells (named 2) (κs .1 .1 .0) Blockᴿ, (mut-slice-tells (named 3) (κs .1 .1 .1 .0) u8, (mut-slice-tells (named 4) (κs .1 .1 .1 .1 .0) u8, (word .tells, (word .tells, tt)))))))
+      walk-meets-at 𝓤 H A f.ended stayed W goes (f.clauses 𝓤 H A mem run) (WpFn 𝓤 H (𝓣 .C) (𝓣 .Λ) code.run-steps-function) (WpFn-mono 𝓤 H (W .laws) 𝓣 code.run-steps-function) y
+      (walked-at 𝓤 H A f.ended stayed (f.clauses 𝓤 H A mem run) (WpFn 𝓤 H (𝓣 .C) (𝓣 .Λ) code.run-steps-function) y (ptr-vals, (slice-vals, (slice-vals, (slice-vals, (slice-vals, ((λ x. word .val x ∷ []), ((λ x. word .val x ∷ []), tt))))))) (mut-tells (named 0) (κs .0) Countersᴿ, (mut-slice-tells (named 1) (κs .1 .0) u8, (mut-slice-tells (named 2) (κs .1 .1 .0) Blockᴿ, (mut-slice-tells (named 3) (κs .1 .1 .1 .0) u8, (mut-slice-tells (named 4) (κs .1 .1 .1 .1 .0) u8, (word .tells, (word .tells, tt)))))))
       (λ are. via 𝓤 _ (fst∗ 𝓤 _ (emp 𝓤)) (walk 𝓤 H A W mem run (κs .0) (κs .1 .0) (κs .1 .1 .0) (κs .1 .1 .1 .0) (κs .1 .1 .1 .1 .0) (qs .0) (qs .1 .0) (qs .1 .1 .0) (qs .1 .1 .1 .0) (qs .1 .1 .1 .1 .0) (a .0 .ptr .0) (a .0 .ptr .1) (a .0 .name) (a .0 .now) (a .1 .0 .ptr .0) (a .1 .0 .ptr .1) (a .1 .0 .name) (a .1 .0 .now) (a .1 .1 .0 .ptr .0) (a .1 .1 .0 .ptr .1) (a .1 .1 .0 .name) (a .1 .1 .0 .now) (a .1 .1 .1 .0 .ptr .0) (a .1 .1 .1 .0 .ptr .1) (a .1 .1 .1 .0 .name) (a .1 .1 .1 .0 .now) (a .1 .1 .1 .1 .0 .ptr .0) (a .1 .1 .1 .1 .0 .ptr .1) (a .1 .1 .1 .1 .0 .name) (a .1 .1 .1 .1 .0 .now) (a .1 .1 .1 .1 .1 .0) (a .1 .1 .1 .1 .1 .1 .0) (are .1 .0 .0 .1) (are .1 .1 .0 .0 .1) (are .1 .1 .1 .0 .0 .1) (are .1 .1 .1 .1 .0 .0 .1) (are .1 .1 .1 .1 .1 .0) (are .1 .1 .1 .1 .1 .1 .0) (𝓣 .C) (𝓣 .Λ) (fmOf 𝓤 H (W .laws) 𝓣) known self)))
 
-pub +play-spec : {M : Type 1} → cycle.statement M
-unfolding code.play-routine tablesOf
-+play-spec 𝓤 H 𝓜 𝓖 𝓡 =
+pub +run-steps-spec : {M : Type 1} → cycle.statement M
+unfolding code.run-steps-routine tablesOf
++run-steps-spec 𝓤 H 𝓜 𝓖 𝓡 =
     mutual-elim 𝓤 H (𝓖 .A) (cycle.functions 𝓤 H (𝓖 .A) (𝓜 .mem) (𝓡 .run)) _<_ (Nat·lt-wfRel .wf)
-    (measured 𝓤 H (𝓖 .A) (record { signature = f.signature; run = 𝓡 .run code.play-routine; spec = f.spec 𝓤 H (𝓖 .A) (𝓜 .mem) (𝓡 .run) }) (λ y′. y′ .0 .3 .1 .1 .1 .1 .1 .0))
-    (λ t smaller. at-on 𝓤 H (𝓖 .A) f.signature (f.spec 𝓤 H (𝓖 .A) (𝓜 .mem) (𝓡 .run)) (WpFn 𝓤 H (tables 𝓤 H 𝓜 𝓡 code.env .C) (tables 𝓤 H 𝓜 𝓡 code.env .Λ) code.play-function) (𝓡 .run code.play-routine) (code.play-unfolded 𝓤 H 𝓜 𝓡) (λ y′. y′ .0 .3 .1 .1 .1 .1 .1 .0) t
+    (measured 𝓤 H (𝓖 .A) (record { signature = f.signature; run = 𝓡 .run code.run-steps-routine; spec = f.spec 𝓤 H (𝓖 .A) (𝓜 .mem) (𝓡 .run) }) (λ y′. y′ .0 .3 .1 .1 .1 .1 .1 .0))
+    (λ t smaller. at-on 𝓤 H (𝓖 .A) f.signature (f.spec 𝓤 H (𝓖 .A) (𝓜 .mem) (𝓡 .run)) (WpFn 𝓤 H (tables 𝓤 H 𝓜 𝓡 code.env .C) (tables 𝓤 H 𝓜 𝓡 code.env .Λ) code.run-steps-function) (𝓡 .run code.run-steps-routine) (code.run-steps-unfolded 𝓤 H 𝓜 𝓡) (λ y′. y′ .0 .3 .1 .1 .1 .1 .1 .0) t
     (λ y e. meets-at 𝓤 H (𝓖 .A) (givenOf 𝓤 H 𝓜 𝓖) (𝓜 .mem) (𝓡 .run) (tablesOf 𝓤 H 𝓜 (tables 𝓤 H 𝓜 𝓡 code.env))
     (cited 𝓤 H (shallowerᶜ 𝓤 H (𝓖 .A) (𝓜 .mem) (𝓡 .run)) 𝓜 𝓡 code.env shallower-def.name shallower-def.routine code.calls-run·shallower (shallower-thm.met 𝓤 H 𝓜 𝓖 𝓡), cited 𝓤 H (stepᶜ 𝓤 H (𝓖 .A) (𝓜 .mem) (𝓡 .run)) 𝓜 𝓡 code.env step-def.name step-def.routine code.calls-run·step (step-thm.met 𝓤 H 𝓜 𝓖 𝓡)) y
     (λ y′ less. smaller (y′ .0 .3 .1 .1 .1 .1 .1 .0) (subst (λ (n : ℕ). y′ .0 .3 .1 .1 .1 .1 .1 .0 < n) e less) y′ refl)))

@@ -1,5 +1,5 @@
 {
-    'fn': 'run::play',
+    'fn': 'run::run_steps',
     'kit': 'walks',
     'local': 'Rattle.walks.proofs.Local',
     'types': {'settings': 'counters', 'wire': 'counters'},
@@ -9,7 +9,7 @@
     'callees': {
         'run::shallower': {'ens': 'r .goes ≡ true → r .level < {0}'},
         'run::step': {'ens': 'Runs (lentTo {0} {1} {2}) (lentTo {w0} {w1} {w2})'},
-        'run::play': {'ens': 'Runs (lentTo {0} {1} {2}) (lentTo {w0} {w1} {w2})'},
+        'run::run_steps': {'ens': 'Runs (lentTo {0} {1} {2}) (lentTo {w0} {w1} {w2})'},
     },
     'falls': ['(e0 (is-true (r0 .goes) yes0))', '(e0 (is-true (r0 .goes) yes0))'],
     'says': ['(together (together e1 e2) e3)', 'none'],

@@ -1,4 +1,4 @@
--- `run::tell` meets its contract: a walk of its MIR. tools/walk.py wrote it from tell.py.
+-- `run::report_call` meets its contract: a walk of its MIR. tools/walk.py wrote it from report_call.py.
 -- Assumes nothing.
 use Rattle.walks.proofs.Walk.{refl, ℕ, [], _∷_, List, URA, fullShare, named, Val, vptr, SProp, ent, id⊢, emp, via, fst∗, GName, Lft, Share, ftrue, flft, Memory, Routine, Heap, Calls, Loops, WpFn, Tables, Atoms, Fun, givenOf, tables, tablesOf, Given, ‵, _⊛_, _$_, _∵_, !, qed, move, drop, split, fsplit, fsplit3, fjoin3, feqI, keep, look, look-raw, init, stop, hop, from, load, of-opd, and-then, no-more, assigns, returns, enter, alloc1, alloc0, params1, pass1, pass0, FmC, fmOf, WpFn-mono, owns}
 use Rattle.walks.proofs.Walk.{Is, shows, mem, Boolean, u64, MutRef, ptr-vals, mut-tells, plain, opens, closes, owned, peeks, spelt, onEntry, Meets, tripleOf, Contract, Triple, calls-at, entered, cited, Stays, stay-ref, stay-dropped, walkOf, AllGo, goes-dropped, goes-ref, Walks, walked, walk-meets, yes, Bool}
@@ -9,10 +9,10 @@ use Rattle.counters.proofs.Types.{Countersᴿ, Countersᴰ}
 use Rattle.run.proofs.report as report
 use Rattle.run.proofs.report.Symbol as report-def
 use Rattle.run.proofs.report.Met as report-thm
-use Rattle.run.proofs.tell.Key.{name as #f}
-use Rattle.run.proofs.tell as f
-use Rattle.run.proofs.tell.Statement as stated
-use Rattle.run.proofs.tell.Code as code
+use Rattle.run.proofs.report_call.Key.{name as #f}
+use Rattle.run.proofs.report_call as f
+use Rattle.run.proofs.report_call.Statement as stated
+use Rattle.run.proofs.report_call.Code as code
 
 abbrev stayed : Stays (f.ended .signature .params) (f.ended .kept)
 stayed = (stay-ref (0 ∷ []) tt (plain (λ _. Countersᴿ)), (stay-dropped (plain (λ _. Boolean)) yes, (stay-dropped (plain (λ _. u64)) yes, (stay-dropped (plain (λ _. u64)) yes, tt))))
@@ -54,9 +54,9 @@ module _ {M : Type 1} (𝓤 : URA M) (H : Heap 𝓤) (A : Atoms 𝓤) (W : Given
   meets : (𝓣 : Tables 𝓤 H) → Known 𝓤 H A mem run (𝓣 .C) → Meets 𝓤 H A f.signature (WpFn 𝓤 H (𝓣 .C) (𝓣 .Λ) code.function) (f.spec 𝓤 H A mem run)
   meets 𝓣 known = walk-meets 𝓤 H A f.ended stayed W goes (f.clauses 𝓤 H A mem run) (WpFn 𝓤 H (𝓣 .C) (𝓣 .Λ) code.function) (WpFn-mono 𝓤 H (W .laws) 𝓣 code.function) (walks 𝓣 known)
 
-pub tell-spec : {M : Type 1} → stated.statement M
+pub report-call-spec : {M : Type 1} → stated.statement M
 unfolding code.routine tablesOf
-tell-spec 𝓤 H 𝓜 𝓖 𝓡 =
+report-call-spec 𝓤 H 𝓜 𝓖 𝓡 =
     entered 𝓤 H (tripleOf 𝓤 H (𝓖 .A) f.signature (f.spec 𝓤 H (𝓖 .A) (𝓜 .mem) (𝓡 .run)))
     (tables 𝓤 H 𝓜 𝓡 code.env .C) (tables 𝓤 H 𝓜 𝓡 code.env .Λ) #f code.function (code.unfolded 𝓤 H 𝓜 𝓡)
     (meets 𝓤 H (𝓖 .A) (givenOf 𝓤 H 𝓜 𝓖) (𝓜 .mem) (𝓡 .run) (tablesOf 𝓤 H 𝓜 (tables 𝓤 H 𝓜 𝓡 code.env))

@@ -1,5 +1,5 @@
 {
-    'fn': 'blocks::sweep',
+    'fn': 'blocks::keep_from',
     'kit': 'walks',
     'types': {'settings': 'blocks'},
     'about': 'It calls itself: the method of `mutual-elim`, at the number of entries left. The store is lent as & to be judged, and then as &mut, for the call of itself and for `fill`.',
@@ -12,7 +12,7 @@
         'blocks::place_of': {'req': 'yes', 'ens': 'r ≡ spotOf {0} {1}'},
         'blocks::noted': {'req': 'yes', 'ens': 'r ≡ notedOf {0} {1} {2}'},
         'blocks::fill': {'ens': '{w0} ≡ set {0} {1} {2}'},
-        'blocks::sweep': {'req': 'yes', 'ens': 'Swept {2} (take {1} {0}) {0} {3} {5} r {w0}'},
+        'blocks::keep_from': {'req': 'yes', 'ens': 'Stored {2} (take {1} {0}) {0} {3} {5} r {w0}'},
     },
     'falls': ['(omega (arith, more))'],
     'fits': ['(omega (arith, i-less, ys-room .0))', '(omega (arith, more))'],
@@ -34,8 +34,8 @@
         ],
     ],
     'says': [
-        '(swept-more tip count ys i at r4 _ _ r0 r1 r2 (ys-room .0) within e0 e1 e2 e4 e5)',
-        '(swept-none tip (take count ys) ys i at none)',
+        '(stored-more tip count ys i at r4 _ _ r0 r1 r2 (ys-room .0) within e0 e1 e2 e4 e5)',
+        '(stored-none tip (take count ys) ys i at none)',
     ],
     'spec': {
         'lib.ListN': ['take'],
@@ -43,6 +43,6 @@
         'Rattle.blocks.specs.Steps': ['spotOf', 'notedOf', 'Noted'],
         'lib.Seq': ['getD-take'],
         'Rattle.blocks.proofs.Judging': ['not-yet', 'noted-more'],
-        'Rattle.blocks.proofs.Dropping': ['Swept', 'held-within', 'next-most', 'swept-none', 'swept-more'],
+        'Rattle.blocks.proofs.Dropping': ['Stored', 'held-within', 'next-most', 'stored-none', 'stored-more'],
     },
 }

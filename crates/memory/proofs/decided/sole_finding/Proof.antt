@@ -5,10 +5,10 @@ use borrow.Author.Tests.{not-true, not-false}
 use Rattle.memory.proofs.Sole.{never}
 use borrow.Author.Needs.{needs}
 use native.Mathlib.Omega.{arith}
-use Rattle.memory.proofs.decided.lone.Statement.{statement}
-use Rattle.memory.proofs.decided.lone.Tie as tie
-use Rattle.memory.proofs.decided.lone.Reads as reads
-use Rattle.memory.proofs.decided.lone.Lts as lts
+use Rattle.memory.proofs.decided.sole_finding.Statement.{statement}
+use Rattle.memory.proofs.decided.sole_finding.Tie as tie
+use Rattle.memory.proofs.decided.sole_finding.Reads as reads
+use Rattle.memory.proofs.decided.sole_finding.Lts as lts
 use Rattle.memory.proofs.decided.above.Reads as above-reads
 
 above-requires : tie.Need-above-requires
@@ -26,5 +26,5 @@ returns-3 c = let e : c .before .before .before .above .result ≡ true = not-fa
 returns-4 : tie.Need-returns-4
 returns-4 c = let e : c .before .before .before .above .result ≡ true = not-false _ (c .before .before .if1 .left) in rw (← c .before .before .before .above .ensures, e, c .before .if2 .left, c .if3 .left)
 
-pub lone-spec : {M : Type 1} → statement M
-lone-spec = tie.close (tie.spec above-requires returns returns-2 returns-3 returns-4)
+pub sole-finding-spec : {M : Type 1} → statement M
+sole-finding-spec = tie.close (tie.spec above-requires returns returns-2 returns-3 returns-4)

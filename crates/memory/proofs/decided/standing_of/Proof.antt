@@ -6,10 +6,10 @@ use Rattle.memory.specs.Decided.{standing}
 use Rattle.memory.proofs.Counting.{tally-kept}
 use borrow.Author.Needs.{needs}
 use native.Mathlib.Omega.{arith}
-use Rattle.memory.proofs.decided.weigh.Statement.{statement}
-use Rattle.memory.proofs.decided.weigh.Tie as tie
-use Rattle.memory.proofs.decided.weigh.Reads as reads
-use Rattle.memory.proofs.decided.weigh.Lts as lts
+use Rattle.memory.proofs.decided.standing_of.Statement.{statement}
+use Rattle.memory.proofs.decided.standing_of.Tie as tie
+use Rattle.memory.proofs.decided.standing_of.Reads as reads
+use Rattle.memory.proofs.decided.standing_of.Lts as lts
 use Rattle.memory.proofs.kept.count_backers.Reads as count-backers-reads
 use Rattle.memory.proofs.kept.kept_count.Reads as kept-count-reads
 
@@ -26,5 +26,5 @@ returns : tie.Need-returns
 unfolding standing
 returns c = rw (c .before .before .kept-count .ensures, c .before .before .before .count-backers .ensures)
 
-pub weigh-spec : {M : Type 1} → statement M
-weigh-spec = tie.close (tie.spec count-backers-requires kept-count-requires sub-others returns)
+pub standing-of-spec : {M : Type 1} → statement M
+standing-of-spec = tie.close (tie.spec count-backers-requires kept-count-requires sub-others returns)

@@ -1,20 +1,20 @@
 use mathlib.Core.Path.{ap, _∙_}
 use lib.ListN.{length}
 use Rattle.codec.specs.Bytes.{patch}
-use Rattle.event.proofs.Proposing.{entry-in, entry-size, entry-lent, offer-is}
+use Rattle.event.proofs.Proposing.{entry-in, entry-size, entry-lent, own-proposal-is}
 use borrow.Author.Needs.{needs}
 use native.Mathlib.Omega.{arith}
-use Rattle.event.proofs.host.offer.Statement.{statement}
-use Rattle.event.proofs.host.offer.Tie as tie
+use Rattle.event.proofs.host.put_own_proposal.Statement.{statement}
+use Rattle.event.proofs.host.put_own_proposal.Tie as tie
 
 entry-length-requires : tie.Need-entry-length-requires
 entry-length-requires c κs = omega (arith, c .before .before .before .before .pre .0)
 
-add-to : tie.Need-add-to
-add-to c = omega (arith, c .entry-length .ensures, c .before .before .before .before .before .good .0 .0, entry-in (c .before .before .before .before .before .args .mem .now) (c .before .before .before .before .before .pre .0) (c .before .before .before .before .before .pre .1 .0))
-
 own-requires : tie.Need-own-requires
 own-requires c κs = omega (arith, c .before .before .before .before .before .before .pre .0)
+
+add-put-proposal : tie.Need-add-put-proposal
+add-put-proposal c = omega (arith, c .before .before .entry-length .ensures, c .before .before .before .before .before .before .before .good .0 .0, entry-in (c .before .before .before .before .before .before .before .args .mem .now) (c .before .before .before .before .before .before .before .pre .0) (c .before .before .before .before .before .before .before .pre .1 .0))
 
 sub-put-proposal : tie.Need-sub-put-proposal
 sub-put-proposal c = omega arith
@@ -38,15 +38,15 @@ same-length : tie.Need-same-length
 same-length c = search needs
 
 returns : tie.Need-returns
-returns c = (omega (arith, c .before .before .before .before .before .before .entry-length .ensures, entry-size (c .before .before .before .before .before .before .before .before .before .before .before .args .mem .now) (c .before .before .before .before .before .before .before .before .before .before .before .pre .0) (c .before .before .before .before .before .before .before .before .before .before .before .pre .1 .0)), c .before .before .put-proposal .ensures ∙ ap (patch (c .before .before .before .before .before .before .before .before .before .before .before .args .out .now) (c .before .before .before .before .before .before .before .before .before .before .before .args .d .at)) (offer-is (c .before .before .before .before .before .before .before .before .before .before .before .args .mem .now) (c .before .before .before .before .before .before .before .before .before .before .before .args .d .counters .view .0) (c .before .before .before .before .before .before .before .before .before .before .before .args .child) (c .before .before .before .before .before .before .entry-length .ensures) (c .before .before .before .before .own .ensures)))
+returns c = (omega (arith, c .before .before .before .before .before .before .entry-length .ensures, entry-size (c .before .before .before .before .before .before .before .before .before .before .before .args .mem .now) (c .before .before .before .before .before .before .before .before .before .before .before .pre .0) (c .before .before .before .before .before .before .before .before .before .before .before .pre .1 .0)), c .before .before .put-proposal .ensures ∙ ap (patch (c .before .before .before .before .before .before .before .before .before .before .before .args .out .now) (c .before .before .before .before .before .before .before .before .before .before .before .args .d .at)) (own-proposal-is (c .before .before .before .before .before .before .before .before .before .before .before .args .mem .now) (c .before .before .before .before .before .before .before .before .before .before .before .args .d .counters .view .0) (c .before .before .before .before .before .before .before .before .before .before .before .args .child) (c .before .before .before .before .before .before .entry-length .ensures) (c .before .before .before .before .own .ensures)))
 
-pub offer-spec : {M : Type 1} → statement M
-offer-spec =
+pub put-own-proposal-spec : {M : Type 1} → statement M
+put-own-proposal-spec =
     tie.close
     (tie.spec
     entry-length-requires
-    add-to
     own-requires
+    add-put-proposal
     sub-put-proposal
     part-put-proposal-start
     part-put-proposal-end
