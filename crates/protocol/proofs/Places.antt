@@ -1,59 +1,51 @@
--- The refusals of each call stand in 01's order: "Refusals, by place, in this order". Assumes nothing.
-use Prim.Native.Nat.{ℕ, _≤_}
-use mathlib.Core.List.{List, [], _∷_}
-use native.Mathlib.Omega.{arith}
+-- The refusals of each call stand in 01's order: "Refusals, by place, in this order". Of each call the whole list is taken, as Calls.antt has it. Assumes nothing.
+use Prim.Native.Nat.{ℕ}
+use mathlib.Core.Path.{_≡_, refl}
+use mathlib.Core.Bool.{Bool, true, false, cond}
+use mathlib.Core.List.{List}
+use borrow.Author.Tests.{eqb-true}
+use lib.Dec.{eqb}
 use Rattle.settings.specs.declared.Settings.{Settings}
 use Rattle.settings.specs.Answer.{Rule}
 use Rattle.settings.specs.Opening.{openingRules}
-use Rattle.wire.specs.Content.{byBlock, byTimeouts, Content, vote, commit, certificate, timeout, proposal, block, release}
-use Rattle.wire.specs.Shape.{shapeRules}
-use Rattle.protocol.specs.Work.{Work}
+use Rattle.wire.specs.Fields.{kindOf, senderOf}
+use Rattle.wire.specs.Content.{Certificate, byBlock, byTimeouts, certificateOf, Content, certificate, content}
+use Rattle.wire.specs.Shape.{shapeRules, certificateKindBad, badKind}
+use Rattle.protocol.specs.Work.{n}
 use Rattle.protocol.specs.Refusals.{regionRules, refusals, timerRules, proposeRules}
-use Rattle.protocol.specs.Calls.{Replica, _then_, lengthRules}
-use Rattle.protocol.specs.OneCall.{InOrder}
+use Rattle.protocol.specs.Calls.{Replica, begin, _then_, recordRefusals, timerRefusals, proposeRefusals, openingRefusals}
+use Rattle.protocol.specs.OneCall.{openingOrder, recordOrder, timerOrder, proposeOrder, place, inOrder, InOrder}
+use Rattle.protocol.proofs.Turning.{by-cases}
 
--- 6 to 14, by kind; a release, which the place "shape" turns away with 4, has that answer alone
-abbrev lowest : Content → ℕ
-lowest (vote j v x) = 6
-lowest (commit j v x) = 6
-lowest (certificate j k) = 6
-lowest (timeout t) = 6
-lowest (proposal j v x y h k) = 6
-lowest (block j x y h) = 6
-lowest (release j v x h) = 4
+pub opening-in-order : (r : Replica) (s : Settings) (m own : ℕ) → InOrder openingOrder (openingRefusals r s m own)
+unfolding place inOrder openingRules
+opening-in-order r s m own = refl
 
-pub kind-in-order : (W : Work) (r : List ℕ) (q : Content) → InOrder (lowest q) (refusals W r q)
-unfolding InOrder refusals
-kind-in-order W r (vote j v x) = omega arith
-kind-in-order W r (commit j v x) = omega arith
-kind-in-order W r (certificate j (byBlock v x g)) = omega arith
-kind-in-order W r (certificate j (byTimeouts v ts)) = omega arith
-kind-in-order W r (timeout t) = omega arith
-kind-in-order W r (proposal j v x y h k) = omega arith
-kind-in-order W r (block j x y h) = omega arith
-kind-in-order W r (release j v x h) = omega arith
+pub timer-in-order : (r : Replica) (room v : ℕ) → InOrder timerOrder (timerRefusals r room v)
+unfolding place inOrder regionRules timerRules
+timer-in-order r room v = refl
 
--- 2, and then 3, 4 and 5: what stands before them in a record's list
-pub regions-and-shape-in-order : (W : Work) (room m : ℕ) (r : List ℕ) → InOrder 2 (regionRules W room then shapeRules m r)
-unfolding InOrder regionRules
-regions-and-shape-in-order W room m r = omega arith
+pub propose-in-order : (r : Replica) (room : ℕ) (x : List ℕ) → InOrder proposeOrder (proposeRefusals r room x)
+unfolding place inOrder regionRules proposeRules
+propose-in-order r room x = refl
 
--- 2, then 7, 8 and 10
-pub timer-in-order : (W : Work) (room v : ℕ) → InOrder 2 (regionRules W room then timerRules W v)
-unfolding InOrder regionRules timerRules
-timer-in-order W room v = omega arith
+-- a record of any kind but 9
+pub record-in-order : (r : Replica) (room : ℕ) (bytes : List ℕ) → (kindOf bytes ≡ 9 → ⊥) → InOrder recordOrder (recordRefusals r room bytes)
+unfolding place inOrder regionRules refusals content
+record-in-order r room bytes other =
+    kind 1 _ _ refl (kind 2 _ _ refl (kind 5 _ _ refl (kind 7 _ _ refl (kind 8 _ _ refl
+    (by-cases Whole (eqb (kindOf bytes) 9) _ _ (λ e. absurd (other (eqb-true (kindOf bytes) 9 e))) (λ e. certified (certificateOf bytes)))))))
+  where
+    Whole : Content → Type 0
+    Whole q = let W = begin r in InOrder recordOrder (regionRules W room then shapeRules (n W) bytes then refusals W bytes q)
+    kind : (a : ℕ) (p q : Content) → Whole p → Whole q → Whole (cond (eqb (kindOf bytes) a) p q)
+    kind a p q h k = by-cases Whole (eqb (kindOf bytes) a) p q (λ e. h) (λ e. k)
+    certified : (k : Certificate) → Whole (certificate (senderOf bytes) k)
+    certified (byBlock v x g) = refl
+    certified (byTimeouts v ts) = refl
 
--- 15 first, and the rest in order from 5 on
-abbrev Turn : List Rule → Type 0
-Turn [] = ⊥
-Turn (r ∷ rules) = (15 ≤ r .number) × InOrder 5 rules
-
--- "15 ... Checked right after 2; then 5 (zero name), 11 (name held), 12 (safe block not held), 13 (height over 2^62), 14"
-pub propose-in-order : (W : Work) (room : ℕ) (x : List ℕ) → InOrder 2 (regionRules W room) × Turn (proposeRules W x)
-unfolding InOrder regionRules proposeRules
-propose-in-order W room x = omega arith
-
--- 1, then 2: the whole list of an opening
-pub opening-in-order : (r : Replica) (s : Settings) (m own : ℕ) → InOrder 1 (openingRules s m own then lengthRules r)
-unfolding InOrder openingRules
-opening-in-order r s m own = omega arith
+-- kind 9, a release, which is for the host alone: the rule for 4 of the place "shape" applies to it, so none that stands behind is asked, and up to there the list is in order
+pub release-in-order : (r : Replica) (room : ℕ) (bytes : List ℕ) → kindOf bytes ≡ 9
+    → (badKind bytes ≡ true) × InOrder recordOrder (let W = begin r in regionRules W room then shapeRules (n W) bytes)
+unfolding place inOrder regionRules badKind certificateKindBad
+release-in-order r room bytes nine = (rw nine, refl)

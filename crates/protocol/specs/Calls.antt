@@ -37,18 +37,25 @@ pub record Replica : Type 0 where
 abbrev pub begin : Replica → Work
 begin r = record { counters = r .counters; memory = r .memory; store = r .store; out = [] }
 
--- ---- the core of each call: a refusal, or what is left and written
+-- ---- the refusals of each call, its whole list; the core of the call is a refusal, or what is left and written
 module _ (r : Replica) (room : ℕ) where
+  abbrev pub recordRefusals : List ℕ → List Rule
+  recordRefusals bytes = let W = begin r in regionRules W room then shapeRules (n W) bytes then refusals W bytes (content bytes)
+
   unfoldable pub recordCore : List ℕ → Answer Work
-  recordCore bytes =
-      let W = begin r in
-      judge (regionRules W room then shapeRules (n W) bytes then refusals W bytes (content bytes)) (settle (onRecord bytes (content bytes) W))
+  recordCore bytes = judge (recordRefusals bytes) (settle (onRecord bytes (content bytes) (begin r)))
+
+  abbrev pub timerRefusals : ℕ → List Rule
+  timerRefusals v = let W = begin r in regionRules W room then timerRules W v
 
   unfoldable pub timerCore : ℕ → Answer Work
-  timerCore v = let W = begin r in judge (regionRules W room then timerRules W v) (settle (onTimer v W))
+  timerCore v = judge (timerRefusals v) (settle (onTimer v (begin r)))
+
+  abbrev pub proposeRefusals : List ℕ → List Rule
+  proposeRefusals x = let W = begin r in regionRules W room then proposeRules W x
 
   unfoldable pub proposeCore : List ℕ → Answer Work
-  proposeCore x = let W = begin r in judge (regionRules W room then proposeRules W x) (settle (onPropose x W))
+  proposeCore x = judge (proposeRefusals x) (settle (onPropose x (begin r)))
 
 -- opening: settings and own number, no held block, the genesis certificate as entry certificate, and empty rows
 unfoldable pub openedMemory : List ℕ → Settings → ℕ → List ℕ
@@ -60,10 +67,13 @@ openedMemory m s own =
 abbrev pub lengthRules : Replica → List Rule
 lengthRules r = ltb (length (r .memory)) memoryLength ⇒ 2 ∷ ltb (length (r .store)) storeLength ⇒ 2 ∷ []
 
+abbrev pub openingRefusals : Replica → Settings → ℕ → ℕ → List Rule
+openingRefusals r s n own = openingRules s n own then lengthRules r
+
 unfoldable pub openingCore : Replica → ℕ → ℕ → ℕ → ℕ → ℕ → Answer Work
 openingCore r f c k n own =
     let s : Settings = record { f = f; c = c; k = k } in
-    judge (openingRules s n own then lengthRules r)
+    judge (openingRefusals r s n own)
     (record { counters = opened; memory = openedMemory (r .memory) s own; store = r .store; out = [] })
 
 -- ---- the outcome: the reply, and each region afterwards. "Answer 0 is acceptance, returned with the number of bytes written; the bytes after them stay."

@@ -1,8 +1,10 @@
 -- What the theorems about one call say (01: Refusals; The box: "each call's output must be shown to fit"), and a list of calls on one replica.
 -- Assumes nothing.
 use Prim.Native.Nat.{ℕ, _≤_}
+use mathlib.Core.Bool.{Bool, true, cond, _&&_}
 use mathlib.Core.Path.{_≡_}
 use mathlib.Core.List.{List, [], _∷_}
+use lib.Dec.{eqb, ltb}
 use lib.ListN.{length, drop}
 use Rattle.settings.specs.Answer.{accepts, refuses, Rule, judge}
 use Rattle.codec.specs.Bytes.{IsBytes}
@@ -35,10 +37,36 @@ ReplicaTyped r = Typed (begin r)
 abbrev pub left : Outcome → Replica
 left o = record { counters = o .counters; memory = o .memory; store = o .store }
 
--- "Refusals, by place, in this order": the numbers of the rules ascend from low on
-unfoldable pub InOrder : ℕ → List Rule → Type 0
-InOrder low [] = Unit {0}
-InOrder low (r ∷ rules) = (low ≤ r .number) × InOrder (r .number) rules
+-- ---- THE ORDER OF REFUSALS (01: "Refusals, by place, in this order"): the numbers of each call as 01 asks them, one after another
+-- "opening", 1; then "regions", 2
+abbrev pub openingOrder : List ℕ
+openingOrder = 1 ∷ 2 ∷ []
+
+-- "regions", 2; "shape", 3, 4 and 5; "party", 6; "view", 7 and 8; "certificate", 9; "before", 10 and 11; "chain", 12, 13 and 14
+abbrev pub recordOrder : List ℕ
+recordOrder = 2 ∷ 3 ∷ 4 ∷ 5 ∷ 6 ∷ 7 ∷ 8 ∷ 9 ∷ 10 ∷ 11 ∷ 12 ∷ 13 ∷ 14 ∷ []
+
+-- the places of the table that speak of the timer: "regions"; 7, "below the current view (6, 7, timer)"; 8, "timer above the current view"; 10, "timer with timed ≥ view"
+abbrev pub timerOrder : List ℕ
+timerOrder = 2 ∷ 7 ∷ 8 ∷ 10 ∷ []
+
+-- "15 propose: ... Checked right after 2; then 5 (zero name), 11 (name held), 12 (safe block not held), 13 (height over 2^62), 14"
+abbrev pub proposeOrder : List ℕ
+proposeOrder = 2 ∷ 15 ∷ 5 ∷ 11 ∷ 12 ∷ 13 ∷ 14 ∷ []
+
+-- the place of a number in an order: what of the order stands from that number on. A number that isn't in the order has no place, and nothing stands from it on
+unfoldable pub place : List ℕ → ℕ → List ℕ
+place [] a = []
+place (b ∷ order) a = cond (eqb b a) (b ∷ order) (place order a)
+
+-- the number of every rule has a place in the order, and none stands before the place of the rule asked before it: the number is looked for from that place on.
+-- Several rules may give one number
+unfoldable pub inOrder : List ℕ → List Rule → Bool
+inOrder order [] = true
+inOrder order (r ∷ rules) = let from = place order (r .number) in ltb 0 (length from) && inOrder from rules
+
+abbrev pub InOrder : List ℕ → List Rule → Type 0
+InOrder order rules = inOrder order rules ≡ true
 
 -- ---- a refused call: the reply is the refusal, and everything is as it was
 pub record Untouched (r : Replica) (output : List ℕ) (a : ℕ) (o : Outcome) : Type 0 where
