@@ -38,7 +38,7 @@ use Rattle.protocol.specs.Refusals.{storeLength, notOther, belowView, ab
 use Rattle.protocol.specs.Events.{mayVote, safeIn, progress, propositionOf}
 use Rattle.protocol.proofs.Regular.{Regular}
 use Rattle.protocol.proofs.Turning.{by-cases}
-use Rattle.protocol.proofs.World.{Name, World, R, size, traced, TimeoutKept, ParentHeld, VoteGround, Real}
+use Rattle.protocol.proofs.World.{Name, World, R, size, traced, TimeoutKept, ParentHeld, VoteGround, Real, placementOf}
 use Rattle.protocol.proofs.Chain.{as-found}
 use Rattle.protocol.proofs.Records.{joined-more, vote-framed}
 use Rattle.protocol.proofs.Steps.{size-is, few, vote-real, commit-real, timeout-real}
@@ -133,7 +133,7 @@ module _ (set : Settings) (w : World) (H : HighVoted (R set w)) (i : ℕ) (l₀ 
   count-is W r = omega (arith, length-take (blockCountOf (W .memory)) (W .store), r .room, r .store-long)
 
   module _ (W : Work) (S : Snd W) (b : Block) (typed : Seen set w i l₀ S → BlockTyped b)
-      (ready : Seen set w i l₀ S → heldBlock W (b .name) .is ≡ false → (length (blocks W) < storeLength) × w .Born b × (b .height .0 ≤ lastHeight) × ParentHeld set w (tip W) (blocks W) b) where
+      (ready : Seen set w i l₀ S → heldBlock W (b .name) .is ≡ false → (length (blocks W) < storeLength) × w .Placed (placementOf b) × (b .height .0 ≤ lastHeight) × ParentHeld set w (tip W) (blocks W) b) where
     pub hold-sound : Snd (hold W b)
     hold-sound = record {
       made = S .made;
@@ -192,7 +192,7 @@ module _ (set : Settings) (w : World) (H : HighVoted (R set w)) (i : ℕ) (l₀ 
   -- then the block is held, and voted for if that may be
   module _ (W : Work) (S : Snd W) (v : ℕ) (b : Block) (r : List ℕ) (ready : Ready W S v r (W₁ W S v r)) (F : Seen set w i l₀ S → TakenAt set w (viewOfProgress (certificateOf r)) r)
       (next : Seen set w i l₀ S → suc (viewOfProgress (certificateOf r)) ≡ v) (small : v < lastView) (typed : Seen set w i l₀ S → BlockTyped b) (long : length (b .name) ≡ nameLength) (named : b .name ≡ zeroName → ⊥)
-      (born : Seen set w i l₀ S → w .Born b) (on : Seen set w i l₀ S → b .parent ≡ safeCertificate set (certificateOf r) .name)
+      (placed : Seen set w i l₀ S → w .Placed (placementOf b)) (on : Seen set w i l₀ S → b .parent ≡ safeCertificate set (certificateOf r) .name)
       (room : heldBlock W (b .name) .is ≡ false → Seen set w i l₀ S → length (blocks W) < storeLength)
       (place : Seen set w i l₀ S → ParentHeld set w (tip W) (blocks W) b × (b .height .0 ≤ lastHeight)) where
     abbrev X₁ : Work
@@ -219,7 +219,7 @@ module _ (set : Settings) (w : World) (H : HighVoted (R set w)) (i : ℕ) (l₀ 
         let p = place z in
         let same = ready .blocks-same a in
         let t = ready .tip-same in
-        (rw same (room (sym (ap (λ (f : Found). f .is) (held-same a (b .name))) ∙ e) z), born z, p .1, rw (same, t) (p .0)))
+        (rw same (room (sym (ap (λ (f : Found). f .is) (held-same a (b .name))) ∙ e) z), placed z, p .1, rw (same, t) (p .0)))
 
     view₂ : viewNow W₂ ≡ v
     view₂ = hold-view X₁ b ∙ ready .view-is
@@ -233,7 +233,7 @@ module _ (set : Settings) (w : World) (H : HighVoted (R set w)) (i : ℕ) (l₀ 
     over₂ a = subst (λ (d : Counters). k ⊑ traced d .top) (sym (hold-counters X₁ b)) (ready .over (back₂ a))
 
     ground : Seen set w i l₀ S₂ → VoteGround set w v (b .name) k
-    ground a = let z = back (back₂ a) in (viewOfProgress (certificateOf r), sym (next z), F z .backed, (b, born z, refl, on z))
+    ground a = let z = back (back₂ a) in (viewOfProgress (certificateOf r), sym (next z), F z .backed, (placementOf b, placed z, refl, on z))
 
     abbrev q : List ℕ
     q = voteRecord W₂ v (b .name)

@@ -35,7 +35,7 @@ use Rattle.protocol.specs.Events.{onTimer, onPropose}
 use Rattle.protocol.specs.OneChain.{reads}
 use Rattle.protocol.proofs.Regular.{Regular, form-room}
 use Rattle.protocol.proofs.Forms.{fits-typed, form-fits}
-use Rattle.protocol.proofs.World.{ParentHeld, Name, World, R, size, Sent, Entry, Real}
+use Rattle.protocol.proofs.World.{ParentHeld, Name, World, R, size, Sent, Entry, Real, placementOf}
 use Rattle.protocol.proofs.Records.{reads-encode, joined-more, proposal-framed}
 use Rattle.protocol.proofs.Steps.{size-is, few, sent-real}
 use Rattle.protocol.proofs.Going.{framed-more, all-left, all-right, all-head, Shown, shown-as, Sound, Seen, grown, TakenAt}
@@ -167,9 +167,9 @@ module _ (set : Settings) (w : World) (H : HighVoted (R set w)) (i : ℕ) (l₀ 
     unfolding content₀
     q-reads a = rw (q-is a) (reads-encode (content₀ a) (q-fits a))
 
-    q-born : (a : Sn₀) → Shown w i q → w .Born b
+    q-placed : (a : Sn₀) → Shown w i q → w .Placed (placementOf b)
     unfolding content₀
-    q-born a z = shown-as w i (content₀ a) (q-fits a) (subst (Shown w i) (q-is a) z)
+    q-placed a z = shown-as w i (content₀ a) (q-fits a) (subst (Shown w i) (q-is a) z)
 
     -- the safe block of the entry certificate has a name, on any content of the memory
     safe-name : IsName (b .parent)
@@ -224,6 +224,6 @@ module _ (set : Settings) (w : World) (H : HighVoted (R set w)) (i : ℕ) (l₀ 
         (ready-now set w H i l₀ W₀ S₀ v r refl (λ a. taken₀ (earlier₀ a)) (λ a. let z = earlier₀ a in omega (arith, before-is z, ap viewOfProgress (back₀ z), entry₀ z .of-view)))
         (λ a. taken₀ (earlier₀ a))
         (λ a. let z = earlier₀ a in omega (arith, before-is z, ap viewOfProgress (back₀ z), entry₀ z .of-view))
-        small₀ (λ a. typed₀ (earlier₀ a)) (name .size) named₀ (λ a. q-born (earlier₀ a) (latest₀ a))
+        small₀ (λ a. typed₀ (earlier₀ a)) (name .size) named₀ (λ a. q-placed (earlier₀ a) (latest₀ a))
         (λ a. ap (λ (z : Settings). safeCertificate z (certificateOf r) .name) (S .real (earlier₀ a) .set-is))
         (λ new a. room₀ new (earlier₀ a)) (λ a. place₀ (earlier₀ a))

@@ -70,7 +70,7 @@ module _ (set : Settings) (w : World) (H : HighVoted (R set w)) (i : ℕ) (l₀ 
   settled : (W₀ : Work) → Regular W₀ → Sound set w i l₀ W₀ → (W : Work) → settle W₀ ≡ W → Sound set w i l₀ W
   settled W₀ R₀ S W e = subst (Sound set w i l₀) e (settle-sound set w H i l₀ W₀ R₀ S)
 
-  pub core-sound : (c : Call) (room : ℕ) (W : Work) → CallTyped c → coreOf r room c ≡ accepts W → Says w (stepSays (n (begin r)) (calls c)) → All (w .Born) (stepGives (calls c))
+  pub core-sound : (c : Call) (room : ℕ) (W : Work) → CallTyped c → coreOf r room c ≡ accepts W → Says w (stepSays (n (begin r)) (calls c)) → All (w .Placed) (stepGives (calls c))
       → Sound set w i l₀ W
   unfolding coreOf recordCore timerCore proposeCore shapeOf
   core-sound (receive b) room W t e s g =

@@ -26,7 +26,7 @@ use Rattle.safety.specs.Rows.{Upward, firsts, number}
 use Rattle.safety.proofs.Rows.{row-upward, number-append}
 use Rattle.wire.specs.Fit.{All}
 use Rattle.protocol.proofs.Typing.{all-append}
-use Rattle.protocol.proofs.World.{World, R, rowIn, ParentHeld, Stored, Named, Chained}
+use Rattle.protocol.proofs.World.{World, R, rowIn, ParentHeld, Stored, Named, Chained, placementOf}
 
 -- ---- searching
 is-found : (f : Found) (c : Block) → f ≡ found c → f .is ≡ true
@@ -63,7 +63,7 @@ find-name store x c e =
 
 module _ (set : Settings) (w : World) where
   -- ---- a block is held
-  module _ (l : List (List ℕ)) (tip : Block) (store : List Block) (C : Chained set w l tip store) (b : Block) (born : w .Born b) (le : b .height .0 ≤ lastHeight)
+  module _ (l : List (List ℕ)) (tip : Block) (store : List Block) (C : Chained set w l tip store) (b : Block) (placed : w .Placed (placementOf b)) (le : b .height .0 ≤ lastHeight)
       (parent : ParentHeld set w tip store b) (new : held tip store (b .name) .is ≡ false) where
     abbrev more : List Block
     more = store ++ (b ∷ [])
@@ -110,8 +110,8 @@ module _ (set : Settings) (w : World) where
       named = C .named;
       tip-le = C .tip-le;
       stored = λ c p. ⊎-elim
-          (λ q. let s = C .stored c q in record { born = s .born; height-le = s .height-le; over-tip = s .over-tip; parent-held = parent-more c (s .parent-held) })
-          (λ q. subst (Stored set w tip more) (sym q) (record { born = born; height-le = le; over-tip = over; parent-held = parent-more b parent }))
+          (λ q. let s = C .stored c q in record { placed = s .placed; height-le = s .height-le; over-tip = s .over-tip; parent-held = parent-more c (s .parent-held) })
+          (λ q. subst (Stored set w tip more) (sym q) (record { placed = placed; height-le = le; over-tip = over; parent-held = parent-more b parent }))
           (in-more c p);
       single = λ a c p q e. ⊎-elim
           (λ i. ⊎-elim (λ j. C .single a c i j e) (λ j. absurd (no-name a i (e ∙ ap (λ (d : Block). d .name) j))) (in-more c q))
@@ -143,7 +143,7 @@ module _ (set : Settings) (w : World) where
       height : b .height .0 ≡ tip .height .0 + length (ancestry tip store b)
 
     parent-of : (b : Block) → In b store → R set w .Parent (b .name) (b .parent)
-    parent-of b p = (b, C .stored b p .born, refl, refl)
+    parent-of b p = (placementOf b, C .stored b p .placed, refl, refl)
 
     -- the parent of an entry b that is the tip, or the entry c
     height-tip : (b : Block) → In b store → b .parent ≡ tip .name → b .height .0 ≡ suc (tip .height .0)
@@ -208,11 +208,11 @@ module _ (set : Settings) (w : World) where
       firsts-append [] k = refl
       firsts-append (a ∷ m) k = ap (λ (x : List (List ℕ)). a .0 ∷ x) (firsts-append m k)
 
-      -- each block of the line was born with its height
+      -- each block of the line has its height
       stored-named : (row : List Block) → AllIn row store → All (Named set w) (pairs row)
       unfolding All
       stored-named [] a = tt
-      stored-named (c ∷ row) a = ((c, C .stored c (a .0) .born, refl, refl), stored-named row (a .1))
+      stored-named (c ∷ row) a = ((placementOf c, C .stored c (a .0) .placed, refl, refl), stored-named row (a .1))
 
       line-named : All (Named set w) (pairs (ancestry tip store b))
       line-named =
@@ -254,7 +254,7 @@ module _ (set : Settings) (w : World) where
         stored = λ c i.
             let q = in-rest c i in
             let s = C .stored c (q .0) in
-            record { born = s .born; height-le = s .height-le; over-tip = descends-higher b store c (q .1); parent-held = parent-rest c (q .0) (q .1) };
+            record { placed = s .placed; height-le = s .height-le; over-tip = descends-higher b store c (q .1); parent-held = parent-rest c (q .0) (q .1) };
         single = single-rest;
         tip-apart = λ c i e.
             let q = in-rest c i in

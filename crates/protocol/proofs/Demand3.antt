@@ -17,12 +17,11 @@ use Rattle.wire.specs.Shape.{shapeRules, shapeOf}
 use Rattle.wire.specs.Fit.{All, Proper}
 use Rattle.wire.proofs.Facts.{off-judge}
 use Rattle.wire.proofs.ReadBack.{read-written, read-proper}
-use Rattle.blocks.specs.declared.Block.{Block}
 use Rattle.safety.specs.Lists.{In}
 use Rattle.safety.specs.Cluster.{Cluster, HighVoted}
 use Rattle.safety.specs.Rows.{OneParent, nothing, up-to}
 use Rattle.safety.proofs.Lists.{in-right, in-append, in-all}
-use Rattle.safety.specs.Run.{is-vote, is-commit, Log, AllAllowed, tag, own, after, end, log, births, made, cluster, AtEnd, Keeps}
+use Rattle.safety.specs.Run.{is-vote, is-commit, Log, AllAllowed, tag, own, after, end, log, placements, made, cluster, AtEnd, Keeps}
 use Rattle.safety.proofs.Rank.{needed-honest}
 use Rattle.safety.proofs.Safety.{some-honest}
 use Rattle.safety.proofs.Run.{honest-high, run-lawful, in-tag, in-own, in-log, by-replica, row-linked, one-chain, one-length}
@@ -31,26 +30,26 @@ use Rattle.protocol.specs.Work.{Work, n}
 use Rattle.protocol.specs.Refusals.{regionRules, refusals}
 use Rattle.protocol.specs.Calls.{Replica, begin, recordCore, openingCall, Outcome, outcome}
 use Rattle.protocol.specs.OneCall.{Call, receive, timer, propose, CallTyped, callOn}
-use Rattle.protocol.specs.OneChain.{Step, calls, reopens, Entry, outcomeOf, accepted, makes, recordGives, recordsGive, stepGives, gives, StepTyped, replicaMachine, reads, readOf, Premises, OneChain, Demand3}
+use Rattle.protocol.specs.OneChain.{Placement, Step, calls, reopens, Entry, outcomeOf, accepted, makes, recordGives, recordsGive, stepGives, gives, StepTyped, replicaMachine, reads, readOf, Premises, OneChain, Demand3}
 use Rattle.protocol.proofs.OneCall.{quiet-append, coreOf, call-is}
 use Rattle.protocol.proofs.World.{Name, World, R, Passes, Sent}
 use Rattle.protocol.proofs.Telling.{ToldAs, Told}
 use Rattle.protocol.proofs.Keeping.{Keeping, call-keeps, opened-keeping}
 
--- ---- names in the births of a call: none is genesis
+-- ---- names in the placements of a call: none is genesis
 -- in what a replica made
-passes-named : (m : ℕ) (c : Content) → Passes m c → (b : Block) → In b (recordGives c) → b .name ≡ zeroName → ⊥
+passes-named : (m : ℕ) (c : Content) → Passes m c → (b : Placement) → In b (recordGives c) → b .name ≡ zeroName → ⊥
 unfolding Proper
 passes-named m (vote j v x) k b q z = q
 passes-named m (commit j v x) k b q z = q
 passes-named m (certificate j s) k b q z = q
 passes-named m (timeout t) k b q z = q
-passes-named m (proposal j v x y h s) k b (inl e) z = k .0 (sym (ap (λ (c : Block). c .name) e) ∙ z)
+passes-named m (proposal j v x y h s) k b (inl e) z = k .0 (sym (ap (λ (c : Placement). c .name) e) ∙ z)
 passes-named m (proposal j v x y h s) k b (inr q) z = q
 passes-named m (block j x y h) k b q z = k
 passes-named m (release j v x h) k b q z = q
 
-sent-named : (m : ℕ) (r : List ℕ) → Sent m r → (b : Block) → In b (recordGives (content r)) → b .name ≡ zeroName → ⊥
+sent-named : (m : ℕ) (r : List ℕ) → Sent m r → (b : Placement) → In b (recordGives (content r)) → b .name ≡ zeroName → ⊥
 sent-named m r S b p z = passes-named m (S .says) (S .passes) b (subst (λ (c : Content). In b (recordGives c)) (ap content (S .is) ∙ read-written (S .says) (S .fits)) p) z
 
 -- a vote that it made is for a name
@@ -64,24 +63,24 @@ not-zero m (proposal s u x y h c) k v e = let z : _≡_ {A = ℕ} 0 1 = cc in ab
 not-zero m (block s x y h) k v e = k
 not-zero m (release s u x h) k v e = let z : _≡_ {A = ℕ} 0 1 = cc in absurd (omega arith)
 
-all-named : (m : ℕ) (l : List (List ℕ)) → ((r : List ℕ) → In r l → Sent m r) → (b : Block) → In b (recordsGive l) → b .name ≡ zeroName → ⊥
+all-named : (m : ℕ) (l : List (List ℕ)) → ((r : List ℕ) → In r l → Sent m r) → (b : Placement) → In b (recordsGive l) → b .name ≡ zeroName → ⊥
 all-named m [] f b p z = p
 all-named m (r ∷ l) f b p z = ⊎-elim (λ q. sent-named m r (f r (inl refl)) b q z) (λ q. all-named m l (λ s k. f s (inr k)) b q z) (in-append b (recordGives (content r)) (recordsGive l) p)
 
 -- in a record that is accepted
-proper-named : (m : ℕ) (c : Content) → Proper m c → (b : Block) → In b (recordGives c) → b .name ≡ zeroName → ⊥
+proper-named : (m : ℕ) (c : Content) → Proper m c → (b : Placement) → In b (recordGives c) → b .name ≡ zeroName → ⊥
 unfolding Proper
 proper-named m (vote j v x) p b q z = q
 proper-named m (commit j v x) p b q z = q
 proper-named m (certificate j k) p b q z = q
 proper-named m (timeout t) p b q z = q
-proper-named m (proposal j v x y h k) p b (inl e) z = p .0 (sym (ap (λ (c : Block). c .name) e) ∙ z)
+proper-named m (proposal j v x y h k) p b (inl e) z = p .0 (sym (ap (λ (c : Placement). c .name) e) ∙ z)
 proper-named m (proposal j v x y h k) p b (inr q) z = q
-proper-named m (block j x y h) p b (inl e) z = p (sym (ap (λ (c : Block). c .name) e) ∙ z)
+proper-named m (block j x y h) p b (inl e) z = p (sym (ap (λ (c : Placement). c .name) e) ∙ z)
 proper-named m (block j x y h) p b (inr q) z = q
 proper-named m (release j v x h) p b q z = q
 
-core-named : (s : Replica) (room : ℕ) (c : Call) (W : Work) → CallTyped c → coreOf s room c ≡ accepts W → (b : Block) → In b (stepGives (calls c)) → b .name ≡ zeroName → ⊥
+core-named : (s : Replica) (room : ℕ) (c : Call) (W : Work) → CallTyped c → coreOf s room c ≡ accepts W → (b : Placement) → In b (stepGives (calls c)) → b .name ≡ zeroName → ⊥
 unfolding coreOf recordCore shapeOf
 core-named s room (receive r) W t e b p z =
     let W₀ = begin s in
@@ -93,13 +92,13 @@ core-named s room (receive r) W t e b p z =
 core-named s room (timer v) W t e b p z = p
 core-named s room (propose x) W t e b p z = p
 
-core-cases : (s : Replica) (output : List ℕ) (c : Call) → CallTyped c → (l : List Block) (b : Block) → (In b l → ⊥) → (core : Answer Work) → coreOf s (length output) c ≡ core
+core-cases : (s : Replica) (output : List ℕ) (c : Call) → CallTyped c → (l : List Placement) (b : Placement) → (In b l → ⊥) → (core : Answer Work) → coreOf s (length output) c ≡ core
     → In b (cond (accepted (outcome s output core .reply)) (stepGives (calls c) ++ l) []) → b .name ≡ zeroName → ⊥
 unfolding outcome
 core-cases s output c t l b k (accepts W) e p z = ⊎-elim (λ q. core-named s (length output) c W t e b q z) k (in-append b (stepGives (calls c)) l p)
 core-cases s output c t l b k (refuses a) e p z = p
 
-call-named : (s : Replica) (output : List ℕ) (c : Call) → CallTyped c → (l : List Block) (b : Block) → (In b l → ⊥)
+call-named : (s : Replica) (output : List ℕ) (c : Call) → CallTyped c → (l : List Placement) (b : Placement) → (In b l → ⊥)
     → In b (cond (accepted (callOn s output c .reply)) (stepGives (calls c) ++ l) []) → b .name ≡ zeroName → ⊥
 call-named s output c t l b k p z =
     go (coreOf s (length output) c) refl (subst (λ (o : Outcome). In b (cond (accepted (o .reply)) (stepGives (calls c) ++ l) [])) (call-is s output c) p)
@@ -107,12 +106,12 @@ call-named s output c t l b k p z =
     go : (core : Answer Work) → coreOf s (length output) c ≡ core → In b (cond (accepted (outcome s output core .reply)) (stepGives (calls c) ++ l) []) → ⊥
     go core e p = core-cases s output c t l b k core e p z
 
-open-named : (t : Bool) (l : List Block) (b : Block) → (In b l → ⊥) → In b (cond t ([] ++ l) []) → ⊥
+open-named : (t : Bool) (l : List Placement) (b : Placement) → (In b l → ⊥) → In b (cond t ([] ++ l) []) → ⊥
 open-named true l b k p = k p
 open-named false l b k p = p
 
 -- in any call
-step-named : (s : Replica) (e : Entry) → StepTyped (e .step) → {m : ℕ} → ((r : List ℕ) → In r (makes s e) → Sent m r) → (b : Block) → In b (gives s e) → b .name ≡ zeroName → ⊥
+step-named : (s : Replica) (e : Entry) → StepTyped (e .step) → {m : ℕ} → ((r : List ℕ) → In r (makes s e) → Sent m r) → (b : Placement) → In b (gives s e) → b .name ≡ zeroName → ⊥
 unfolding gives outcomeOf
 step-named s e t {m} f b p z = go (e .step) t (λ q. all-named m (makes s e) f b q z) p
   where
@@ -125,18 +124,18 @@ module _ (set : Settings) (honest : ℕ → Bool) (σ : ℕ → Replica) (run : 
   abbrev F : Log replicaMachine
   F = log replicaMachine σ [] run
 
-  abbrev B : List Block
-  B = births replicaMachine σ run
+  abbrev B : List Placement
+  B = placements replicaMachine σ run
 
   abbrev RunCluster : Cluster Name
   RunCluster = cluster replicaMachine set honest reads (λ b. b .name) (λ b. b .parent) σ run
 
   -- the world of the run, and the world where every claim is true
   abbrev real-world : World
-  real-world = record { honest = honest; Voted = RunCluster .Voted; Committed = RunCluster .Committed; TimedOut = RunCluster .TimedOut; Born = λ b. In b B }
+  real-world = record { honest = honest; Voted = RunCluster .Voted; Committed = RunCluster .Committed; TimedOut = RunCluster .TimedOut; Placed = λ b. In b B }
 
   abbrev pub free-world : World
-  free-world = record { honest = honest; Voted = λ i v x. Unit {0}; Committed = λ i v x. Unit {0}; TimedOut = λ i t. Unit {0}; Born = λ b. Unit {0} }
+  free-world = record { honest = honest; Voted = λ i v x. Unit {0}; Committed = λ i v x. Unit {0}; TimedOut = λ i t. Unit {0}; Placed = λ b. Unit {0} }
 
   told-real : (j : ℕ) (q : List ℕ) → In (j, q) F → Told real-world j q
   told-real j q p = go (content q) refl
@@ -189,17 +188,17 @@ module _ (set : Settings) (honest : ℕ → Bool) (σ : ℕ → Replica) (run : 
       backed-end = λ i b h s X. at-end i s X;
     }
 
-    -- ---- no birth is of the genesis name
+    -- ---- no placement is of the genesis name
     all-sent : (i : ℕ) → T (honest i) → All (Sent (replicas set)) (own replicaMachine i F)
     unfolding keeps
     all-sent i t =
         by-replica replicaMachine honest F B (keeps .Own) (keeps .own-step) run σ [] refl (λ b q. q) (P .earlier) (P .allowed) (keeps .own-open) i t .sent
 
-    born-named : (rest : List (ℕ × Entry)) (τ : ℕ → Replica) (L : Log replicaMachine) → log replicaMachine τ L rest ≡ F → AllAllowed replicaMachine τ rest
-        → All (λ (e : ℕ × Entry). T (honest (e .0))) rest → (b : Block) → In b (births replicaMachine τ rest) → b .name ≡ zeroName → ⊥
+    placed-named : (rest : List (ℕ × Entry)) (τ : ℕ → Replica) (L : Log replicaMachine) → log replicaMachine τ L rest ≡ F → AllAllowed replicaMachine τ rest
+        → All (λ (e : ℕ × Entry). T (honest (e .0))) rest → (b : Placement) → In b (placements replicaMachine τ rest) → b .name ≡ zeroName → ⊥
     unfolding All
-    born-named [] τ L e f h b p z = p
-    born-named (a ∷ rest) τ L e f h b p z =
+    placed-named [] τ L e f h b p z = p
+    placed-named (a ∷ rest) τ L e f h b p z =
         let s = τ (a .0) in
         let new = makes s (a .1) in
         ⊎-elim
@@ -207,13 +206,13 @@ module _ (set : Settings) (honest : ℕ → Bool) (σ : ℕ → Replica) (run : 
         (λ r k. in-all (Sent (replicas set)) r (own replicaMachine (a .0) F) (all-sent (a .0) (h .0))
         (in-own replicaMachine (a .0) r F (rw (← e) (in-log replicaMachine (a .0, r) (after replicaMachine τ (a .0) (a .1)) (L ++ tag replicaMachine (a .0) new) rest
         (in-right (a .0, r) L (tag replicaMachine (a .0) new) (in-tag replicaMachine (a .0) r new k)))))) b q z)
-        (λ q. born-named rest (after replicaMachine τ (a .0) (a .1)) (L ++ tag replicaMachine (a .0) new) e (f .1) (h .1) b q z)
-        (in-append b (gives s (a .1)) (births replicaMachine (after replicaMachine τ (a .0) (a .1)) rest) p)
+        (λ q. placed-named rest (after replicaMachine τ (a .0) (a .1)) (L ++ tag replicaMachine (a .0) new) e (f .1) (h .1) b q z)
+        (in-append b (gives s (a .1)) (placements replicaMachine (after replicaMachine τ (a .0) (a .1)) rest) p)
 
     one-parent : OneParent (RunCluster .Parent) zeroName
     one-parent = record {
-      one = λ x y z p q. sym (p .3) ∙ P .one-birth (p .0) (q .0) (p .1) (q .1) (p .2 ∙ sym (q .2)) .0 ∙ q .3;
-      top = λ y p. born-named run σ [] refl (P .allowed) (P .on-honest) (p .0) (p .1) (p .2);
+      one = λ x y z p q. sym (p .3) ∙ P .one-placement (p .0) (q .0) (p .1) (q .1) (p .2 ∙ sym (q .2)) .0 ∙ q .3;
+      top = λ y p. placed-named run σ [] refl (P .allowed) (P .on-honest) (p .0) (p .1) (p .2);
     }
 
     -- ---- the premises rule out the one record that would not pass 5: a commit for the zero name

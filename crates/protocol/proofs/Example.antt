@@ -15,22 +15,21 @@ use Rattle.wire.specs.Content.{Content}
 use Rattle.wire.specs.Encode.{encode, certificateBytes}
 use Rattle.wire.specs.Fit.{All, Fits}
 use Rattle.wire.proofs.ReadBack.{read-written}
-use Rattle.blocks.specs.declared.Block.{Block}
 use Rattle.safety.specs.Lists.{In}
 use Rattle.safety.specs.Count.{count}
 use Rattle.safety.specs.Run.{AllAllowed, Earlier, Read, is-vote, is-commit, is-timeout, is-release, is-other, released as rowIn}
 use Rattle.protocol.specs.Calls.{Replica}
-use Rattle.protocol.specs.OneChain.{Entry, replicaMachine, readOf, reads, Premises, OneChain, born, rowOf}
+use Rattle.protocol.specs.OneChain.{Placement, Entry, replicaMachine, readOf, reads, Premises, OneChain, placed, rowOf}
 use Rattle.protocol.specs.Example.{six, honestOnes, openedAs, blockName, theProposal, voteOf, theCertificate, entries}
 use Rattle.protocol.proofs.Demand3.{demand-3}
-use Rattle.protocol.proofs.ExampleProposal.{theBlock, is-opened}
+use Rattle.protocol.proofs.ExampleProposal.{is-opened}
 use Rattle.protocol.proofs.ExampleCertificate.{sent-on, committed}
 use Rattle.protocol.proofs.ExampleVotes.{vote-fits, released}
-use Rattle.protocol.proofs.ExampleEntries.{r₂, r₃, r₄, r₅, r₆, p₁, p₂, p₃, p₄, p₅, c₁, v₂, v₃, v₄, v₅, v₀, proposal-says, vote-says, certificate-says, sent-fits, commit-fits, release-fits, proposal-gives, certificate-gives, vote-gives, release-gives, proposal-bytes, certificate-bytes, vote-bytes}
+use Rattle.protocol.proofs.ExampleEntries.{thePlacement, r₂, r₃, r₄, r₅, r₆, p₁, p₂, p₃, p₄, p₅, c₁, v₂, v₃, v₄, v₅, v₀, proposal-says, vote-says, certificate-says, sent-fits, commit-fits, release-fits, proposal-gives, certificate-gives, vote-gives, release-gives, proposal-bytes, certificate-bytes, vote-bytes}
 
--- ---- one birth
-born-are : born six honestOnes openedAs entries ≡ theBlock ∷ theBlock ∷ theBlock ∷ theBlock ∷ theBlock ∷ []
-born-are =
+-- ---- one placement
+placed-are : placed six honestOnes openedAs entries ≡ thePlacement ∷ thePlacement ∷ thePlacement ∷ thePlacement ∷ thePlacement ∷ []
+placed-are =
     rw (
       proposal-gives 1 (lit< tt) p₁,
       proposal-gives 2 (lit< tt) p₂,
@@ -45,10 +44,10 @@ born-are =
       release-gives,
     )
 
-only-the-block : (a : Block) → In a (born six honestOnes openedAs entries) → a ≡ theBlock
-only-the-block a p = go (subst (In a) born-are p)
+only-the-one : (a : Placement) → In a (placed six honestOnes openedAs entries) → a ≡ thePlacement
+only-the-one a p = go (subst (In a) placed-are p)
   where
-    go : In a (theBlock ∷ theBlock ∷ theBlock ∷ theBlock ∷ theBlock ∷ []) → a ≡ theBlock
+    go : In a (thePlacement ∷ thePlacement ∷ thePlacement ∷ thePlacement ∷ thePlacement ∷ []) → a ≡ thePlacement
     go (inl e) = e
     go (inr (inl e)) = e
     go (inr (inr (inl e))) = e
@@ -118,10 +117,10 @@ example-premises =
       on-honest = (tt, (tt, (tt, (tt, (tt, (tt, (tt, (tt, (tt, (tt, (tt, tt)))))))))));
       allowed = all-allowed;
       earlier = made-earlier;
-      one-birth = λ a b p q e.
-          let α = only-the-block a p in
-          let β = only-the-block b q in
-          (ap (λ (x : Block). x .parent) α ∙ sym (ap (λ (x : Block). x .parent) β), ap (λ (x : Block). x .height) α ∙ sym (ap (λ (x : Block). x .height) β));
+      one-placement = λ a b p q e.
+          let α = only-the-one a p in
+          let β = only-the-one b q in
+          (ap (λ (x : Placement). x .parent) α ∙ sym (ap (λ (x : Placement). x .parent) β), ap (λ (x : Placement). x .height) α ∙ sym (ap (λ (x : Placement). x .height) β));
     }
 
 -- ---- THE ROW: replica 1 made its vote, the certificate sent on, its commit and its release

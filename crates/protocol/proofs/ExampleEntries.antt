@@ -1,4 +1,4 @@
--- The eleven calls of the run of specs/Example.antt, one after another: each is accepted, and what it leaves, makes, says of others and gives birth to.
+-- The eleven calls of the run of specs/Example.antt, one after another: each is accepted, and what it leaves, makes, says of others and gives a name.
 -- Assumes nothing.
 use Prim.Native.Nat.{ℕ, zero, suc, _≤_, _<_}
 use native.Mathlib.Omega.{arith}
@@ -8,6 +8,7 @@ use mathlib.Core.List.{List, [], _∷_, _++_}
 use lib.Dec.{lit<, lit≤}
 use Rattle.settings.specs.Quorum.{replicas}
 use Rattle.codec.specs.Bytes.{IsBytes}
+use Rattle.codec.specs.Names.{zeroName}
 use Rattle.wire.specs.Content.{Content, byBlock, commit, certificate, release}
 use Rattle.wire.specs.Encode.{encode, certificateBytes}
 use Rattle.wire.specs.Fit.{CertificateFits, Fits}
@@ -18,7 +19,7 @@ use Rattle.memory.proofs.Bits.{counted, signs-none}
 use Rattle.protocol.specs.Work.{n}
 use Rattle.protocol.specs.Calls.{Replica, begin}
 use Rattle.protocol.specs.OneCall.{left}
-use Rattle.protocol.specs.OneChain.{outcomeOf, says, gives, votesOf, recordGives, recordsGive}
+use Rattle.protocol.specs.OneChain.{Placement, outcomeOf, says, gives, votesOf, recordGives, recordsGive}
 use Rattle.protocol.specs.Example.{openedAs, blockName, theProposal, voteOf, theCertificate, handed}
 use Rattle.protocol.proofs.ExampleRows.{nobody, and-also}
 use Rattle.protocol.proofs.ExampleCalls.{State, Step}
@@ -114,12 +115,15 @@ certificate-says =
     let six-of : n (begin r₁) ≡ 6 = ap (λ (r : Replica). n (begin r)) (s .is) ∙ ap replicas (s .settings) in
     rw (read-written _ certificate-fits, six-of)
 
--- ---- the births
+-- ---- the placements: one alone
+abbrev pub thePlacement : Placement
+thePlacement = record { name = blockName; parent = zeroName; height = 1 }
+
 gives-is : (r : Replica) (c : Content) → Fits c → {P : Replica → Type 0} (made : List (List ℕ)) → Step r (encode c) made P → gives r (handed (encode c)) ≡ recordGives c ++ recordsGive made
 unfolding gives
 gives-is r c f made s = rw (s .accepts, s .makes, read-written c f)
 
-pub proposal-gives : (i : ℕ) → i < 6 → Proposed i → gives (openedAs i) (handed theProposal) ≡ theBlock ∷ []
+pub proposal-gives : (i : ℕ) → i < 6 → Proposed i → gives (openedAs i) (handed theProposal) ≡ thePlacement ∷ []
 unfolding encode certificateBytes
 proposal-gives i h s = gives-is (openedAs i) _ proposal-fits (voteOf i ∷ []) s ∙ rw (read-written _ (vote-fits i h))
 

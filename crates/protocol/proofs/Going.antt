@@ -65,7 +65,7 @@ ShownAs w i (vote j v x) = w .Voted i v x
 ShownAs w i (commit j v x) = w .Committed i v x
 ShownAs w i (certificate j k) = Unit {0}
 ShownAs w i (timeout t) = w .TimedOut i (Safety.content t)
-ShownAs w i (proposal j v x y h k) = w .Born (record { name = x; parent = y; height = record { 0 = h } })
+ShownAs w i (proposal j v x y h k) = w .Placed (record { name = x; parent = y; height = h })
 ShownAs w i (block j x y h) = Unit {0}
 ShownAs w i (release j v x h) = Unit {0}
 

@@ -36,7 +36,7 @@ use Rattle.protocol.specs.Typed.{BlockTyped}
 use Rattle.protocol.specs.Refusals.{storeLength}
 use Rattle.protocol.specs.Calls.{Replica, begin, openingCore, openingCall, Outcome, outcome}
 use Rattle.protocol.specs.OneCall.{Call, CallTyped, callOn, left}
-use Rattle.protocol.specs.OneChain.{Step, calls, reopens, outcomeOf, accepted, written, cutRecords, makes, stepSays, says, recordGives, recordsGive, stepGives, gives, StepTyped, Refused, replicaMachine, Opened}
+use Rattle.protocol.specs.OneChain.{Placement, Step, calls, reopens, outcomeOf, accepted, written, cutRecords, makes, stepSays, says, recordGives, recordsGive, stepGives, gives, StepTyped, Refused, replicaMachine, Opened}
 use Rattle.protocol.proofs.Typing.{zero-is-name}
 use Rattle.protocol.proofs.Opened.{Openable, openedWork, opening-accepts, opened-settings, opened-own, opened-count, opened-entry, opened-none, opened-regular}
 use Rattle.protocol.proofs.OneCall.{begin-regular, coreOf, call-is}
@@ -71,24 +71,24 @@ unfolding All
 all-of-in P [] f = tt
 all-of-in P (a ∷ l) f = (f a (inl refl), all-of-in P l (λ b p. f b (inr p)))
 
-gives-in : (l : List (List ℕ)) (r : List ℕ) (b : Block) → In r l → In b (recordGives (content r)) → In b (recordsGive l)
+gives-in : (l : List (List ℕ)) (r : List ℕ) (b : Placement) → In r l → In b (recordGives (content r)) → In b (recordsGive l)
 gives-in [] r b p q = absurd p
 gives-in (s ∷ l) r b (inl e) q = in-left b (recordGives (content s)) (recordsGive l) (rw e at q)
 gives-in (s ∷ l) r b (inr p) q = in-right b (recordGives (content s)) (recordsGive l) (gives-in l r b p q)
 
 -- ---- one call of a run
-module _ (set : Settings) (w : World) (H : HighVoted (R set w)) (F : Log replicaMachine) (B : List Block)
-    (told : (j : ℕ) (q : List ℕ) → In (j, q) F → Told w j q) (born : (b : Block) → In b B → w .Born b) where
-  -- what a replica made in the run, and which births it gave, shows what the record says
-  shown : (i : ℕ) (q : List ℕ) → In (i, q) F → ((b : Block) → In b (recordGives (content q)) → In b B) → Shown w i q
+module _ (set : Settings) (w : World) (H : HighVoted (R set w)) (F : Log replicaMachine) (B : List Placement)
+    (told : (j : ℕ) (q : List ℕ) → In (j, q) F → Told w j q) (placed : (b : Placement) → In b B → w .Placed b) where
+  -- what a replica made in the run, and which placements it gave, shows what the record says
+  shown : (i : ℕ) (q : List ℕ) → In (i, q) F → ((b : Placement) → In b (recordGives (content q)) → In b B) → Shown w i q
   shown i q p g = go (content q) (told i q p) g
     where
-      go : (c : Content) → ToldAs w i c → ((b : Block) → In b (recordGives c) → In b B) → ShownAs w i c
+      go : (c : Content) → ToldAs w i c → ((b : Placement) → In b (recordGives c) → In b B) → ShownAs w i c
       go (vote j v x) t g = t
       go (commit j v x) t g = t
       go (certificate j k) t g = tt
       go (timeout s) t g = t
-      go (proposal j v x y h k) t g = born (record { name = x; parent = y; height = record { 0 = h } }) (g (record { name = x; parent = y; height = record { 0 = h } }) (inl refl))
+      go (proposal j v x y h k) t g = placed (record { name = x; parent = y; height = h }) (g (record { name = x; parent = y; height = h }) (inl refl))
       go (block j x y h) t g = tt
       go (release j v x h) t g = tt
 
@@ -100,7 +100,7 @@ module _ (set : Settings) (w : World) (H : HighVoted (R set w)) (F : Log replica
     abbrev Goal : Step → Outcome → Type 0
     Goal st o = (T (accepted (o .reply)) → All (λ (a : ℕ × List ℕ). T (w .honest (a .0)) → In a F) (stepSays (n (begin s)) st))
         → ((q : List ℕ) → In q (cutOf o) → In (i, q) F)
-        → ((b : Block) → In b (cond (accepted (o .reply)) (stepGives st ++ recordsGive (cutOf o)) []) → In b B)
+        → ((b : Placement) → In b (cond (accepted (o .reply)) (stepGives st ++ recordsGive (cutOf o)) []) → In b B)
         → Keeping set w i (l ++ cutOf o) (left o)
 
     accepted-goal : (c : Call) (output : List ℕ) (W : Work) → CallTyped c → coreOf s (length output) c ≡ accepts W → Goal (calls c) (outcome s output (accepts W))
@@ -108,8 +108,8 @@ module _ (set : Settings) (w : World) (H : HighVoted (R set w)) (F : Log replica
     accepted-goal c output W t e says made gave =
         let cut-is : take (length (W .out)) (W .out ++ drop (length (W .out)) output) ≡ W .out = take-append-seam (W .out) (drop (length (W .out)) output) in
         let told-all : Says w (stepSays (n (begin s)) (calls c)) = all-impl _ _ (stepSays (n (begin s)) (calls c)) (λ a f h. told (a .0) (a .1) (f h)) (says tt) in
-        let born-all : All (w .Born) (stepGives (calls c)) = all-of-in (w .Born) (stepGives (calls c)) (λ b p. born b (gave b (in-left b (stepGives (calls c)) (recordsGive (cutOf (outcome s output (accepts W)))) p))) in
-        let S = core-sound set w H i l s K c (length output) W t e told-all born-all in
+        let placed-all : All (w .Placed) (stepGives (calls c)) = all-of-in (w .Placed) (stepGives (calls c)) (λ b p. placed b (gave b (in-left b (stepGives (calls c)) (recordsGive (cutOf (outcome s output (accepts W)))) p))) in
+        let S = core-sound set w H i l s K c (length output) W t e told-all placed-all in
         let same : cutRecords (length (W .out)) (W .out) ≡ S .made = ap (λ (o : List ℕ). cutRecords (length o) o) (S .out-is) ∙ cut-joined (S .made) (S .framed) (length (joined (S .made))) (omega arith) in
         let whole : cutOf (outcome s output (accepts W)) ≡ S .made = ap (λ (o : List ℕ). cutRecords (length o) o) cut-is ∙ same in
         let seen : All (Shown w i) (S .made) = all-of-in (Shown w i) (S .made) (λ q p.

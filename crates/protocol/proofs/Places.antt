@@ -38,8 +38,10 @@ record-in-order r room bytes other =
   where
     Whole : Content → Type 0
     Whole q = let W = begin r in InOrder recordOrder (regionRules W room then shapeRules (n W) bytes then refusals W bytes q)
+
     kind : (a : ℕ) (p q : Content) → Whole p → Whole q → Whole (cond (eqb (kindOf bytes) a) p q)
     kind a p q h k = by-cases Whole (eqb (kindOf bytes) a) p q (λ e. h) (λ e. k)
+
     certified : (k : Certificate) → Whole (certificate (senderOf bytes) k)
     certified (byBlock v x g) = refl
     certified (byTimeouts v ts) = refl

@@ -31,8 +31,8 @@ use Rattle.protocol.specs.Work.{Work, settings, n, viewNow, tip, blocks,
 use Rattle.protocol.specs.Typed.{BlockTyped}
 use Rattle.protocol.specs.Refusals.{storeLength, viewOfProgress, misplaced, noRoom, safeName, child, refusals}
 use Rattle.protocol.specs.Events.{progress, propositionOf, onRecord}
-use Rattle.protocol.specs.OneChain.{timeoutSays, certificateSays, recordSays, recordGives, reads}
-use Rattle.protocol.proofs.World.{Name, World, R, size, ParentHeld}
+use Rattle.protocol.specs.OneChain.{Placement, timeoutSays, certificateSays, recordSays, recordGives, reads}
+use Rattle.protocol.proofs.World.{Name, World, R, size, ParentHeld, placementOf}
 use Rattle.protocol.proofs.Steps.{few}
 use Rattle.protocol.proofs.Records.{encode-framed}
 use Rattle.protocol.proofs.Going.{Sound, Seen, TakenAt, progress-went}
@@ -81,7 +81,7 @@ module _ (set : Settings) (w : World) (H : HighVoted (R set w)) (i : ℕ) (l₀ 
     first-told j more q e s h = subst (ToldAs w j) e (s .0 h)
 
     -- what a record of kind 7 or 8 gives a name
-    given : (b : Block) → All (w .Born) (b ∷ []) → w .Born b
+    given : (b : Placement) → All (w .Placed) (b ∷ []) → w .Placed b
     unfolding All
     given b a = a .0
 
@@ -106,7 +106,7 @@ module _ (set : Settings) (w : World) (H : HighVoted (R set w)) (i : ℕ) (l₀ 
     inner-is j v x y h k f is = ap progressOf (sym is) ∙ stands-encode (proposal j v x y h k) f .rest
 
     proposed : (j v : ℕ) (x y : Name) (h : ℕ) (k : Certificate) → encode (proposal j v x y h k) ≡ r → Fits (proposal j v x y h k) → Proper (n W) (proposal j v x y h k)
-        → Quiet (refusals W r (proposal j v x y h k)) → Says w (recordSays (n W) r (proposal j v x y h k)) → All (w .Born) (recordGives (proposal j v x y h k))
+        → Quiet (refusals W r (proposal j v x y h k)) → Says w (recordSays (n W) r (proposal j v x y h k)) → All (w .Placed) (recordGives (proposal j v x y h k))
         → Snd (propositionOf v (child W x y h) (progressOf r) W)
     unfolding refusals Fits Proper All
     proposed j v x y h k is f p t s b =
@@ -121,11 +121,11 @@ module _ (set : Settings) (w : World) (H : HighVoted (R set w)) (i : ℕ) (l₀ 
         let F = taken (progressOf r) j k (f .0) (omega (arith, next, small)) (f .5) (p .2) (good .0) inner (s .1) in
         let after : suc (viewOfProgress (certificateOf (progressOf r))) ≡ v = rw back next in
         proposition-sound set w H i l₀ W S v (child W x y h) (progressOf r) (ready-any set w H i l₀ W S v (progressOf r) F (cert-framed (progressOf r) j k (f .0) (f .5) inner) (rw back (f .5)) after (d .0)) F
-        (λ a. after) small (λ a. child-typed x y h (f .2) (f .3) (f .4)) (f .2 .size) (p .0) (λ a. given (child W x y h) b)
+        (λ a. after) small (λ a. child-typed x y h (f .2) (f .3) (f .4)) (f .2 .size) (p .0) (λ a. given (placementOf (child W x y h)) b)
         (λ a. rw back (parent ∙ ap (λ (z : Settings). safeCertificate z k .name) (set-is a)))
         (λ new a. room-is x (t .1 .1 .1 .1 .1 .1 .1 .1 .0) new a) (λ a. placed (child W x y h) (place .1))
 
-    pub by-kind : (q : Content) → content r ≡ q → encode q ≡ r → Fits q → Proper (n W) q → Quiet (refusals W r q) → Says w (recordSays (n W) r q) → All (w .Born) (recordGives q)
+    pub by-kind : (q : Content) → content r ≡ q → encode q ≡ r → Fits q → Proper (n W) q → Quiet (refusals W r q) → Says w (recordSays (n W) r q) → All (w .Placed) (recordGives q)
         → Snd (onRecord r q W)
     unfolding refusals onRecord Fits Proper encode
     by-kind (vote j v x) e is f p t s b =
@@ -156,5 +156,5 @@ module _ (set : Settings) (w : World) (H : HighVoted (R set w)) (i : ℕ) (l₀ 
     by-kind (proposal j v x y h k) e is f p t s b = proposed j v x y h k is f p t s b
     by-kind (block j x y h) e is f p t s b =
         hold-sound set w H i l₀ W S (child W x y h) (λ a. child-typed x y h (f .1) (f .2) (f .3))
-        (λ a new. let k = placed (child W x y h) (t .1 .1 .1 .1 .0) in (room-is x (t .1 .1 .1 .1 .1 .0) new a, given (child W x y h) b, k .1, k .0))
+        (λ a new. let k = placed (child W x y h) (t .1 .1 .1 .1 .0) in (room-is x (t .1 .1 .1 .1 .1 .0) new a, given (placementOf (child W x y h)) b, k .1, k .0))
     by-kind (release j v x h) e is f p t s b = absurd (true≢false (t .0))

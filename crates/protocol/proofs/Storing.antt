@@ -37,7 +37,7 @@ use Rattle.protocol.proofs.Typing.{all-append}
 use Rattle.protocol.proofs.Regular.{Regular, hold-regular}
 use Rattle.protocol.proofs.Actions.{release-regular}
 use Rattle.protocol.proofs.Holding.{count-holds}
-use Rattle.protocol.proofs.World.{Name, World, R, size, Sent, traced, rowIn, VoteKept, CommitKept, TimeoutKept, Tables, ParentHeld, Real}
+use Rattle.protocol.proofs.World.{Name, World, R, size, Sent, traced, rowIn, VoteKept, CommitKept, TimeoutKept, Tables, ParentHeld, Real, placementOf}
 use Rattle.protocol.proofs.Records.{reads-encode}
 use Rattle.protocol.proofs.Steps.{row-cons, row-append, all-one, few}
 use Rattle.protocol.proofs.Chain.{held-chained, pairs, released-chained}
@@ -88,7 +88,7 @@ module _ (set : Settings) (w : World) (i roof : ℕ) (W : Work) (l : List (List 
     W₁ = record { counters = W .counters; memory = withBlockCount m (k + 1); store = set-at (W .store) k b; out = W .out }
 
     abbrev Ready : Type 0
-    Ready = (k < storeLength) × w .Born b × (b .height .0 ≤ lastHeight) × ParentHeld set w (tip W) (blocks W) b
+    Ready = (k < storeLength) × w .Placed (placementOf b) × (b .height .0 ≤ lastHeight) × ParentHeld set w (tip W) (blocks W) b
 
     new-blocks : k < storeLength → blocks W₁ ≡ blocks W ++ (b ∷ [])
     new-blocks h =

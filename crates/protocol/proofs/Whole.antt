@@ -53,7 +53,7 @@ whole m r S = record {
 
 -- ---- one replica by itself: no replica counts as honest and every claim is true, so that nothing is asked of records
 abbrev pub lone-world : World
-lone-world = record { honest = λ j. false; Voted = λ i v x. Unit {0}; Committed = λ i v x. Unit {0}; TimedOut = λ i t. Unit {0}; Born = λ b. Unit {0} }
+lone-world = record { honest = λ j. false; Voted = λ i v x. Unit {0}; Committed = λ i v x. Unit {0}; TimedOut = λ i t. Unit {0}; Placed = λ b. Unit {0} }
 
 lone-high : (set : Settings) → HighVoted (R set lone-world)
 lone-high set i b h t q m = tt

@@ -37,7 +37,7 @@ use Rattle.safety.specs.Match.{Matches}
 use Rattle.safety.specs.Trace as Trace
 use Rattle.protocol.specs.Work.{Work, settings, own, viewNow, tip, blocks}
 use Rattle.protocol.specs.Refusals.{viewOfProgress}
-use Rattle.protocol.specs.OneChain.{reads}
+use Rattle.protocol.specs.OneChain.{Placement, reads}
 use Rattle.protocol.proofs.Regular.{Regular}
 use Rattle.protocol.proofs.Holding.{HoldsIn}
 
@@ -50,14 +50,18 @@ pub record World : Type 1 where
   pub Voted : ℕ → ℕ → Name → Type 0
   pub Committed : ℕ → ℕ → Name → Type 0
   pub TimedOut : ℕ → Seen.Timeout Name → Type 0
-  -- a name with its parent and height
-  pub Born : Block → Type 0
+  -- a name has its parent and height
+  pub Placed : Placement → Type 0
+
+-- of a block of the store
+abbrev pub placementOf : Block → Placement
+placementOf b = record { name = b .name; parent = b .parent; height = b .height .0 }
 
 abbrev pub clusterOf : Settings → World → Cluster Name
 clusterOf set w = record {
   set = set;
   honest = w .honest;
-  Parent = λ x y. (b : Block) × w .Born b × (b .name ≡ x) × (b .parent ≡ y);
+  Parent = λ x y. (b : Placement) × w .Placed b × (b .name ≡ x) × (b .parent ≡ y);
   Voted = w .Voted;
   Committed = w .Committed;
   TimedOut = w .TimedOut;
@@ -166,14 +170,14 @@ module _ (set : Settings) (w : World) where
       ⊎ ((c : Block) × (find (b .parent) store ≡ found c) × (b .height .0 ≡ suc (c .height .0)))
 
   pub record Stored (tip : Block) (store : List Block) (b : Block) : Type 0 where
-    pub born : w .Born b
+    pub placed : w .Placed (placementOf b)
     pub height-le : b .height .0 ≤ lastHeight
     pub over-tip : tip .height .0 < b .height .0
     pub parent-held : ParentHeld tip store b
 
-  -- a release says the height that its name was born with
+  -- a release says the height of its name
   abbrev pub Named : Name × ℕ → Type 0
-  Named a = (b : Block) × w .Born b × (b .name ≡ a .0) × (b .height .0 ≡ a .1)
+  Named a = (b : Placement) × w .Placed b × (b .name ≡ a .0) × (b .height ≡ a .1)
 
   -- the row of releases ends in the tip, which is the last direct release; the stored blocks stand above it, one of a name
   pub record Chained (l : List (List ℕ)) (tip : Block) (store : List Block) : Type 0 where

@@ -18,12 +18,11 @@ use Rattle.wire.specs.Encode.{voteBytes}
 use Rattle.wire.specs.Content.{Certificate, byBlock, byTimeouts, timeoutOf, certificateOf, Content, vote, commit, certificate, timeout, proposal, block, release, content}
 use Rattle.wire.specs.Fit.{All}
 use Rattle.certificate.specs.Safe.{signs}
-use Rattle.blocks.specs.declared.Block.{Block}
 use Rattle.counters.specs.declared.Counters.{Counters}
 use Rattle.safety.specs.Lists.{In}
 use Rattle.safety.specs.Count.{count}
 use Rattle.safety.specs.Rows.{Begins, Linked}
-use Rattle.safety.specs.Run.{Machine, Read, is-vote, is-commit, is-timeout, is-release, is-other, AllAllowed, Earlier, births, row}
+use Rattle.safety.specs.Run.{Machine, Read, is-vote, is-commit, is-timeout, is-release, is-other, AllAllowed, Earlier, placements, row}
 use Rattle.safety.specs.Certificates as Seen
 use Rattle.protocol.specs.Work.{Work, n}
 use Rattle.protocol.specs.Typed.{CountersTyped, BlockTyped}
@@ -105,28 +104,33 @@ stepSays n (reopens f c k m own) = []
 unfoldable pub says : Replica → Entry → List (ℕ × List ℕ)
 says r e = stepSays (n (begin r)) (e .step)
 
--- ---- BIRTHS: "A name's parent and height are those given by an accepted kind 7 or 8, or by a kind 7 that an honest box made"
-abbrev pub recordGives : Content → List Block
+-- ---- PLACEMENTS: "A name's parent and height are those given by an accepted kind 7 or 8, or by a kind 7 that an honest box made"
+pub record Placement : Type 0 where
+  pub name : List ℕ
+  pub parent : List ℕ
+  pub height : ℕ
+
+abbrev pub recordGives : Content → List Placement
 recordGives (vote j v x) = []
 recordGives (commit j v x) = []
 recordGives (certificate j k) = []
 recordGives (timeout t) = []
-recordGives (proposal j v x y h k) = record { name = x; parent = y; height = record { 0 = h } } ∷ []
-recordGives (block j x y h) = record { name = x; parent = y; height = record { 0 = h } } ∷ []
+recordGives (proposal j v x y h k) = record { name = x; parent = y; height = h } ∷ []
+recordGives (block j x y h) = record { name = x; parent = y; height = h } ∷ []
 recordGives (release j v x h) = []
 
 -- no replica makes a kind 8
-abbrev pub recordsGive : List (List ℕ) → List Block
+abbrev pub recordsGive : List (List ℕ) → List Placement
 recordsGive [] = []
 recordsGive (r ∷ l) = recordGives (content r) ++ recordsGive l
 
-abbrev pub stepGives : Step → List Block
+abbrev pub stepGives : Step → List Placement
 stepGives (calls (receive b)) = recordGives (content b)
 stepGives (calls (timer v)) = []
 stepGives (calls (propose x)) = []
 stepGives (reopens f c k m own) = []
 
-unfoldable pub gives : Replica → Entry → List Block
+unfoldable pub gives : Replica → Entry → List Placement
 gives r e = cond (accepted (outcomeOf r e .reply)) (stepGives (e .step) ++ recordsGive (makes r e)) []
 
 -- what is handed over has the types of the interface: any bytes, any view of 64 bits, any name of 32 bytes
@@ -145,7 +149,7 @@ replicaMachine = record {
   State = Replica;
   Call = Entry;
   Item = List ℕ;
-  Birth = Block;
+  Placement = Placement;
   Allowed = λ r e. StepTyped (e .step) × Refused (e .step) r;
   accepts = λ r e. accepted (outcomeOf r e .reply);
   next = λ r e. left (outcomeOf r e);
@@ -184,9 +188,9 @@ module _ (set : Settings) (honest : ℕ → Bool) (σ : ℕ → Replica) where
   M = replicaMachine
 
   module _ (run : List (ℕ × Entry)) where
-    -- all births of the run
-    abbrev pub born : List Block
-    born = births M σ run
+    -- all placements of the run
+    abbrev pub placed : List Placement
+    placed = placements M σ run
 
     pub record Premises : Type 0 where
       -- "At least n−f boxes of the ring are honest"; "numbered 0 to n−1"
@@ -200,20 +204,20 @@ module _ (set : Settings) (honest : ℕ → Bool) (σ : ℕ → Replica) where
       -- "For each accepted record in the list: ... that box made it earlier in the list; so too ...; and each honest signer ... earlier made the vote"
       pub earlier : Earlier M honest σ [] run
       -- "by premise no two of these differ"
-      pub one-birth : (a b : Block) → In a born → In b born → a .name ≡ b .name → (a .parent ≡ b .parent) × (a .height ≡ b .height)
+      pub one-placement : (a b : Placement) → In a placed → In b placed → a .name ≡ b .name → (a .parent ≡ b .parent) × (a .height ≡ b .height)
 
     -- ---- THE CLAIM
     -- "An honest box's row is the kind 9 records it made, its releases, in the order written, each as name and height"
     abbrev pub rowOf : ℕ → List (List ℕ × ℕ)
     rowOf i = row M σ run reads i
 
-    -- x's parent is y, by a birth of the run
+    -- x's parent is y, by a placement of the run
     abbrev pub ParentIs : List ℕ → List ℕ → Type 0
-    ParentIs x y = (b : Block) × In b born × (b .name ≡ x) × (b .parent ≡ y)
+    ParentIs x y = (b : Placement) × In b placed × (b .name ≡ x) × (b .parent ≡ y)
 
-    -- a release says the height of its name, by a birth of the run
+    -- a release says the height of its name, by a placement of the run
     abbrev pub HeightIs : List ℕ × ℕ → Type 0
-    HeightIs a = (b : Block) × In b born × (b .name ≡ a .0) × (b .height .0 ≡ a .1)
+    HeightIs a = (b : Placement) × In b placed × (b .name ≡ a .0) × (b .height ≡ a .1)
 
     pub record OneChain : Type 0 where
       -- "The first has genesis as parent, every other one the release before it, and heights run 1, 2, 3 and on."

@@ -88,7 +88,7 @@ module _ {Item Name : Type 0} (reads : Item → Read Name) where
   from-vote l a (an-act {l = l′} {a = a′} r (commit u y) m s) v x c p = let w = from-vote l′ a′ m v x c p in older (w .0) r l′ (is-vote v x) (w .1) (w .2)
   from-vote l a (an-act {l = l′} {a = a′} r (timeout t) m s) v x c p = let w = from-vote l′ a′ m v x c p in older (w .0) r l′ (is-vote v x) (w .1) (w .2)
 
-module _ (M : Machine) (set : Settings) (honest : ℕ → Bool) {Name : Type 0} (reads : M .Item → Read Name) (child parent : M .Birth → Name)
+module _ (M : Machine) (set : Settings) (honest : ℕ → Bool) {Name : Type 0} (reads : M .Item → Read Name) (child parent : M .Placement → Name)
     (σ : ℕ → M .State) (r : List (ℕ × M .Call)) where
   unfoldable pub traced : (i : ℕ) (a : List (Act Name)) (s : Replica Name) → Matches reads (made M σ r i) a → Trace a s
       → Traced (cluster M set honest reads child parent σ r) i

@@ -13,18 +13,18 @@ use Rattle.wire.proofs.Slots.{all-impl}
 use Rattle.safety.specs.Lists.{In}
 use Rattle.safety.specs.Cluster.{Lawful, Cluster, EachHonest, EnoughHonest, HighVoted}
 use Rattle.safety.specs.Rows.{Begins, OneParent, firsts, Linked}
-use Rattle.safety.specs.Run.{AllAllowed, Machine, Log, tag, own, after, end, log, births, Earlier, StepKeeps, Read, made, Did, cluster, row, AtEnd, Keeps}
+use Rattle.safety.specs.Run.{AllAllowed, Machine, Log, tag, own, after, end, log, placements, Earlier, StepKeeps, Read, made, Did, cluster, row, AtEnd, Keeps}
 use Rattle.safety.proofs.Lists.{in-left, in-right, in-append}
 use Rattle.safety.proofs.Rows.{begins-equal, shorter-begins, number-begins, released-linked}
 use Rattle.safety.proofs.Trace.{high-votes, lawful}
 
 module _ (M : Machine) where
-  -- what every call's births M have, the run's have
-  pub births-have : (P : M .Birth → Type 0) → ((s : M .State) (c : M .Call) (b : M .Birth) → In b (M .gives s c) → P b)
-      → (r : List (ℕ × M .Call)) (σ : ℕ → M .State) (b : M .Birth) → In b (births M σ r) → P b
-  births-have P f [] σ b p = absurd p
-  births-have P f (e ∷ r) σ b p = ⊎-elim (f (σ (e .0)) (e .1) b) (births-have P f r (after M σ (e .0) (e .1)) b)
-      (in-append b (M .gives (σ (e .0)) (e .1)) (births M (after M σ (e .0) (e .1)) r) p)
+  -- what every call's placements have, the run's have
+  pub placements-have : (P : M .Placement → Type 0) → ((s : M .State) (c : M .Call) (b : M .Placement) → In b (M .gives s c) → P b)
+      → (r : List (ℕ × M .Call)) (σ : ℕ → M .State) (b : M .Placement) → In b (placements M σ r) → P b
+  placements-have P f [] σ b p = absurd p
+  placements-have P f (e ∷ r) σ b p = ⊎-elim (f (σ (e .0)) (e .1) b) (placements-have P f r (after M σ (e .0) (e .1)) b)
+      (in-append b (M .gives (σ (e .0)) (e .1)) (placements M (after M σ (e .0) (e .1)) r) p)
 
   own-append : (i : ℕ) (l m : Log M) → own M i (l ++ m) ≡ own M i l ++ own M i m
   own-append i [] m = refl
@@ -61,12 +61,12 @@ module _ (M : Machine) where
 
 module _ (M : Machine) (honest : ℕ → Bool) where
   -- ---- THE INDUCTION over a run
-  module _ (F : Log M) (B : List (M .Birth)) (P : ℕ → List (M .Item) → M .State → Type 0) where
-    pub by-replica : StepKeeps M honest F B P → (r : List (ℕ × M .Call)) (σ : ℕ → M .State) (L : Log M) → log M σ L r ≡ F → ((b : M .Birth) → In b (births M σ r) → In b B) → Earlier M honest σ L r → AllAllowed M σ r
+  module _ (F : Log M) (B : List (M .Placement)) (P : ℕ → List (M .Item) → M .State → Type 0) where
+    pub by-replica : StepKeeps M honest F B P → (r : List (ℕ × M .Call)) (σ : ℕ → M .State) (L : Log M) → log M σ L r ≡ F → ((b : M .Placement) → In b (placements M σ r) → In b B) → Earlier M honest σ L r → AllAllowed M σ r
         → ((i : ℕ) → T (honest i) → P i (own M i L) (σ i)) → (i : ℕ) → T (honest i) → P i (own M i F) (end M σ r i)
     by-replica step [] σ L e g h f p = λ i t. rw (← e) (p i t)
     by-replica step (a ∷ r) σ L e g h f p =
-        by-replica step r (after M σ (a .0) (a .1)) (L ++ new) e (λ b q. g b (in-right b (M .gives (σ (a .0)) (a .1)) (births M (after M σ (a .0) (a .1)) r) q)) (h .1) (f .1)
+        by-replica step r (after M σ (a .0) (a .1)) (L ++ new) e (λ b q. g b (in-right b (M .gives (σ (a .0)) (a .1)) (placements M (after M σ (a .0) (a .1)) r) q)) (h .1) (f .1)
         (λ j t. go j t (eqb (a .0) j) refl)
       where
         new : Log M
@@ -79,7 +79,7 @@ module _ (M : Machine) (honest : ℕ → Bool) where
         mine t = step (a .0) t (own M (a .0) L) (σ (a .0)) (a .1) (f .0) (p (a .0) t)
             (λ ok. all-impl _ _ (M .says (σ (a .0)) (a .1)) (λ x k q. into x (in-left x L new (k q))) (h .0 ok))
             (λ q k. into (a .0, q) (in-right (a .0, q) L new (in-tag M (a .0) q (M .makes (σ (a .0)) (a .1)) k)))
-            (λ b k. g b (in-left b (M .gives (σ (a .0)) (a .1)) (births M (after M σ (a .0) (a .1)) r) k))
+            (λ b k. g b (in-left b (M .gives (σ (a .0)) (a .1)) (placements M (after M σ (a .0) (a .1)) r) k))
 
         go : (j : ℕ) → T (honest j) → (b : Bool) → eqb (a .0) j ≡ b → P j (own M j (L ++ new)) (cond b (M .next (σ (a .0)) (a .1)) (σ j))
         go j t true q =
@@ -87,7 +87,7 @@ module _ (M : Machine) (honest : ℕ → Bool) where
             rw (own-append M, own-tag M (a .0) j (M .makes (σ (a .0)) (a .1)) true q, ← is) (mine (rw is t))
         go j t false q = rw (own-append M, own-tag M (a .0) j (M .makes (σ (a .0)) (a .1)) false q, append-nil) (p j t)
 
-module _ (M : Machine) (set : Settings) (honest : ℕ → Bool) {Name : Type 0} (reads : M .Item → Read Name) (child parent : M .Birth → Name)
+module _ (M : Machine) (set : Settings) (honest : ℕ → Bool) {Name : Type 0} (reads : M .Item → Read Name) (child parent : M .Placement → Name)
     (σ : ℕ → M .State) (r : List (ℕ × M .Call)) where
   abbrev R : Cluster Name
   R = cluster M set honest reads child parent σ r
@@ -103,11 +103,11 @@ module _ (M : Machine) (set : Settings) (honest : ℕ → Bool) {Name : Type 0} 
     -- the two passes over the run
     pub honest-high : HighVoted R
     honest-high = high-votes R (λ n l h. K .own-end n l h (end M σ r n)
-        (by-replica M honest (log M σ [] r) (births M σ r) (K .Own) (K .own-step) r σ [] refl (λ b q. q) E A (K .own-open) n h))
+        (by-replica M honest (log M σ [] r) (placements M σ r) (K .Own) (K .own-step) r σ [] refl (λ b q. q) E A (K .own-open) n h))
 
     at-end : EachHonest R (AtEnd M set honest reads child parent σ r genesis)
     at-end n l h = K .backed-end n l h (end M σ r n)
-        (by-replica M honest (log M σ [] r) (births M σ r) (K .Backed) (K .backed-step honest-high) r σ [] refl (λ b q. q) E A (K .backed-open) n h)
+        (by-replica M honest (log M σ [] r) (placements M σ r) (K .Backed) (K .backed-step honest-high) r σ [] refl (λ b q. q) E A (K .backed-open) n h)
 
     -- the run is lawful
     pub run-lawful : EnoughHonest R → Lawful R

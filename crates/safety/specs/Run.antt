@@ -12,12 +12,12 @@ use Rattle.safety.specs.Cluster.{Cluster, Timeout, EachHonest, HighVoted
 use Rattle.safety.specs.Rows.{firsts, number, Released}
 use Rattle.safety.specs.Trace.{Traced, Grounded}
 
--- A replica as a step machine. Item: a record, as bytes or decoded; Birth: a name with its parent and height. A refused call leaves the state and makes nothing: `next` and `makes` say so themselves.
+-- A replica as a step machine. Item: a record, as bytes or decoded; Placement: a name with its parent and height. A refused call leaves the state and makes nothing: `next` and `makes` say so themselves.
 pub record Machine : Type 1 where
   pub State : Type 0
   pub Call : Type 0
   pub Item : Type 0
-  pub Birth : Type 0
+  pub Placement : Type 0
   -- which calls a run may hold at a state, whatever the records in them say
   pub Allowed : State → Call → Type 0
   pub accepts : State → Call → Bool
@@ -26,8 +26,8 @@ pub record Machine : Type 1 where
   pub makes : State → Call → List Item
   -- who is to have made what, by the records that the call accepts: senders of kinds 1, 2, 5 and 7, inner timeouts, and signers, each with its vote
   pub says : State → Call → List (ℕ × Item)
-  -- the births in accepted kinds 7 and 8, and in kind 7 that it makes
-  pub gives : State → Call → List Birth
+  -- the placements in accepted kinds 7 and 8, and in kind 7 that it makes
+  pub gives : State → Call → List Placement
 
 module _ (M : Machine) where
   abbrev pub Log : Type 0
@@ -59,9 +59,9 @@ module _ (M : Machine) where
   AllAllowed σ [] = Unit {0}
   AllAllowed σ (e ∷ r) = M .Allowed (σ (e .0)) (e .1) × AllAllowed (after σ (e .0) (e .1)) r
 
-  abbrev pub births : (ℕ → M .State) → List (ℕ × M .Call) → List (M .Birth)
-  births σ [] = []
-  births σ (e ∷ r) = M .gives (σ (e .0)) (e .1) ++ births (after σ (e .0) (e .1)) r
+  abbrev pub placements : (ℕ → M .State) → List (ℕ × M .Call) → List (M .Placement)
+  placements σ [] = []
+  placements σ (e ∷ r) = M .gives (σ (e .0)) (e .1) ++ placements (after σ (e .0) (e .1)) r
 
 module _ (M : Machine) (honest : ℕ → Bool) where
   -- THE PREMISE: what an accepted record says of an honest replica, that replica made earlier
@@ -71,14 +71,14 @@ module _ (M : Machine) (honest : ℕ → Bool) where
       (T (M .accepts (σ (e .0)) (e .1)) → All (λ (s : ℕ × M .Item). T (honest (s .0)) → In s L) (M .says (σ (e .0)) (e .1)))
       × Earlier (after M σ (e .0) (e .1)) (L ++ tag M (e .0) (M .makes (σ (e .0)) (e .1))) r
 
-  -- ---- what one call of replica i keeps: F is all that the run makes, B all births in it, P what each honest replica keeps, by the items that it made and
+  -- ---- what one call of replica i keeps: F is all that the run makes, B all placements in it, P what each honest replica keeps, by the items that it made and
   -- its state. "Made earlier" is weakened to "made in the run".
-  module _ (F : Log M) (B : List (M .Birth)) (P : ℕ → List (M .Item) → M .State → Type 0) where
+  module _ (F : Log M) (B : List (M .Placement)) (P : ℕ → List (M .Item) → M .State → Type 0) where
     abbrev pub StepKeeps : Type 0
     StepKeeps = (i : ℕ) → T (honest i) → (l : List (M .Item)) (s : M .State) (c : M .Call) → M .Allowed s c → P i l s
         → (T (M .accepts s c) → All (λ (a : ℕ × M .Item). T (honest (a .0)) → In a F) (M .says s c))
         → ((q : M .Item) → In q (M .makes s c) → In (i, q) F)
-        → ((b : M .Birth) → In b (M .gives s c) → In b B)
+        → ((b : M .Placement) → In b (M .gives s c) → In b B)
         → P i (l ++ M .makes s c) (M .next s c)
 
 -- ---- what safety reads in a record
@@ -114,13 +114,13 @@ module _ (M : Machine) (σ : ℕ → M .State) (r : List (ℕ × M .Call)) where
     abbrev pub row : ℕ → List (Name × ℕ)
     row i = released reads (made i)
 
-module _ (M : Machine) (set : Settings) (honest : ℕ → Bool) {Name : Type 0} (reads : M .Item → Read Name) (child parent : M .Birth → Name)
+module _ (M : Machine) (set : Settings) (honest : ℕ → Bool) {Name : Type 0} (reads : M .Item → Read Name) (child parent : M .Placement → Name)
     (σ : ℕ → M .State) (r : List (ℕ × M .Call)) where
   abbrev pub cluster : Cluster Name
   cluster = record {
     set = set;
     honest = honest;
-    Parent = λ x y. (b : M .Birth) × In b (births M σ r) × (child b ≡ x) × (parent b ≡ y);
+    Parent = λ x y. (b : M .Placement) × In b (placements M σ r) × (child b ≡ x) × (parent b ≡ y);
     Voted = λ i v x. Did M σ r reads i (is-vote v x);
     Committed = λ i v x. Did M σ r reads i (is-commit v x);
     TimedOut = λ i t. Did M σ r reads i (is-timeout t);
@@ -133,7 +133,7 @@ module _ (M : Machine) (set : Settings) (honest : ℕ → Bool) {Name : Type 0} 
       (t : Traced cluster i) × Grounded cluster i t × Released cluster genesis (firsts l) × (l ≡ number 1 (firsts l))
 
   abbrev pub Kept : (ℕ → List (M .Item) → M .State → Type 0) → Type 0
-  Kept P = StepKeeps M honest (log M σ [] r) (births M σ r) P
+  Kept P = StepKeeps M honest (log M σ [] r) (placements M σ r) P
 
   -- WHAT A MACHINE HAS TO SHOW, call by call: an invariant of each replica by itself that makes it a trace; and, given that honest high votes are votes,
   -- one that has what backs its certificates and its releases
