@@ -32,11 +32,11 @@ use Rattle.counters.specs.Counters.{adopting, entering}
 use Rattle.protocol.specs.Work.{Work, view, settings, n, own, viewNow, timed, send, adopt, enterBy, sendCommit, keepCommit}
 use Rattle.protocol.specs.Refusals.{viewOfProgress}
 use Rattle.protocol.specs.Events.{withSender, commitAfter, progress}
-use Rattle.protocol.proofs.Regular.{Regular, ProgressForm, form-room, send-regular, enter-regular}
+use Rattle.protocol.proofs.call.Regular.{Regular, ProgressForm, form-room, send-regular, enter-regular}
 use Rattle.protocol.specs.Refusals.{regular}
-use Rattle.protocol.proofs.Forms.{form-view, sender-form}
-use Rattle.protocol.proofs.Rules.{adopts-regular}
-use Rattle.protocol.proofs.Written.{Grows}
+use Rattle.protocol.proofs.call.Certificates.{form-view, sender-form}
+use Rattle.protocol.proofs.call.Rules.{adopts-regular}
+use Rattle.protocol.proofs.call.Written.{Grows}
 use Rattle.act.specs.declared.Draft.{Draft}
 use Rattle.act.specs.Draft.{workOf, Left, Does, Ready}
 use Rattle.act.specs.Progress.{HasForm, IsProgress, certificateRoom, advance, InOutput}

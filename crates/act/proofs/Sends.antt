@@ -17,8 +17,8 @@ use Rattle.memory.specs.Kept.{keep}
 use Rattle.counters.specs.declared.Counters.{Counters}
 use Rattle.counters.specs.Counters.{voting, timing}
 use Rattle.protocol.specs.Work.{view, sendVote, sendCommit, sendTimeout, ownTimeout, keepVote, keepCommit, keepTimeout}
-use Rattle.protocol.proofs.Regular.{Regular}
-use Rattle.protocol.proofs.Actions.{own-timeout-fits}
+use Rattle.protocol.proofs.call.Regular.{Regular}
+use Rattle.protocol.proofs.call.Actions.{own-timeout-fits}
 use Rattle.act.specs.declared.Draft.{Draft}
 use Rattle.act.specs.Draft.{workOf, Does, carriedBy, timeoutBy}
 use Rattle.act.proofs.Steps.{emptyStore, sent-at, sent-out, same-left}

@@ -19,9 +19,9 @@ use Rattle.protocol.specs.Work.{Work}
 use Rattle.protocol.specs.Typed.{BlockTyped, CountersTyped}
 use Rattle.settings.specs.Opening.{inBound}
 use Rattle.protocol.specs.Refusals.{storeLength, regular, entryRegular}
-use Rattle.protocol.proofs.Typing.{zero-is-name}
-use Rattle.protocol.proofs.Regular.{Regular, rules-regular, regular-rules}
-use Rattle.protocol.proofs.Written.{Grows}
+use Rattle.protocol.proofs.call.Typing.{zero-is-name}
+use Rattle.protocol.proofs.call.Regular.{Regular, rules-regular, regular-rules}
+use Rattle.protocol.proofs.call.Written.{Grows}
 use Rattle.act.specs.declared.Draft.{Draft}
 use Rattle.act.specs.Draft.{workOf, Left, left, leftBy, Does, Ready}
 

@@ -8,7 +8,7 @@ use lib.Seq.{set-out}
 use Rattle.blocks.specs.declared.Block.{Block}
 use Rattle.protocol.specs.Work.{Work}
 use Rattle.act.specs.declared.Draft.{Draft}
-use Rattle.protocol.proofs.Regular.{Regular}
+use Rattle.protocol.proofs.call.Regular.{Regular}
 use Rattle.act.specs.Draft.{workOf, left, leftBy, Does, Ready}
 use Rattle.act.proofs.Steps.{Longer, left-then, work-again, regular-ready}
 use Rattle.event.specs.declared.Event.{Event}

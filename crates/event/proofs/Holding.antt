@@ -22,10 +22,10 @@ use Rattle.counters.specs.Counters.{adopting, withLocks}
 use Rattle.protocol.specs.Work.{Work, own, settings, timed, highView, heldBlock, hold, sendVote, keepVote}
 use Rattle.protocol.specs.Refusals.{storeLength}
 use Rattle.protocol.specs.Events.{progress, propositionOf}
-use Rattle.protocol.proofs.Regular.{Regular, ProgressForm, regular-after}
-use Rattle.protocol.proofs.Rules.{adopts-regular, progress-regular}
-use Rattle.protocol.proofs.Written.{adopt-out, progress-out}
-use Rattle.protocol.proofs.Proposals.{SameHeld, progress-held}
+use Rattle.protocol.proofs.call.Regular.{Regular, ProgressForm, regular-after}
+use Rattle.protocol.proofs.call.Rules.{adopts-regular, progress-regular}
+use Rattle.protocol.proofs.call.Written.{adopt-out, progress-out}
+use Rattle.protocol.proofs.call.Proposals.{SameHeld, progress-held}
 use Rattle.act.specs.declared.Draft.{Draft}
 use Rattle.act.specs.Draft.{workOf, Left, left, leftBy, Does, Ready}
 use Rattle.act.proofs.Steps.{emptyStore, Longer, does-nothing, regular-ready, ready-next}

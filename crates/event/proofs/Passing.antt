@@ -23,8 +23,8 @@ use Rattle.wire.proofs.Facts.{Quiet}
 use Rattle.certificate.specs.Good.{progressGood}
 use Rattle.protocol.specs.Work.{Work, settings, n}
 use Rattle.protocol.specs.Refusals.{notOther, viewOfProgress, noRoom, refusals}
-use Rattle.protocol.proofs.Events.{stands-form}
-use Rattle.protocol.proofs.Proposals.{room-free}
+use Rattle.protocol.proofs.call.Events.{stands-form}
+use Rattle.protocol.proofs.call.Proposals.{room-free}
 use Rattle.act.specs.Progress.{IsProgress}
 use Rattle.event.specs.Event.{HeldIs, Asked, Taken, HasRoom}
 use Rattle.event.proofs.Records.{content-vote, content-commit, content-timeout, content-proposal, content-block}

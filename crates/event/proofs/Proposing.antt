@@ -25,10 +25,10 @@ use Rattle.counters.specs.declared.Counters.{Counters}
 use Rattle.counters.specs.Counters.{adopting}
 use Rattle.protocol.specs.Work.{Work, send, adopt}
 use Rattle.protocol.specs.Events.{propositionOf, onPropose}
-use Rattle.protocol.proofs.Regular.{Regular, form-room, send-regular}
-use Rattle.protocol.proofs.Forms.{form-fits, fits-typed}
-use Rattle.protocol.proofs.Rules.{adopts-regular}
-use Rattle.protocol.proofs.Written.{Grows}
+use Rattle.protocol.proofs.call.Regular.{Regular, form-room, send-regular}
+use Rattle.protocol.proofs.call.Certificates.{form-fits, fits-typed}
+use Rattle.protocol.proofs.call.Rules.{adopts-regular}
+use Rattle.protocol.proofs.call.Written.{Grows}
 use Rattle.act.specs.declared.Draft.{Draft}
 use Rattle.act.specs.Draft.{workOf, Does, Ready}
 use Rattle.act.proofs.Steps.{emptyStore, sent-at, sent-out, same-left, ready-next}

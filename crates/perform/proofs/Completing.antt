@@ -16,8 +16,8 @@ use Rattle.protocol.specs.Work.{Work}
 use Rattle.protocol.specs.Events.{onTimer}
 use Rattle.protocol.specs.Refusals.{storeLength, outputLength, regular, regionRules, timerRules}
 use Rattle.protocol.specs.Typed.{CountersTyped}
-use Rattle.protocol.proofs.Proposals.{Done}
-use Rattle.protocol.proofs.Events.{eventRoom, timer-done}
+use Rattle.protocol.proofs.call.Proposals.{Done}
+use Rattle.protocol.proofs.call.Events.{eventRoom, timer-done}
 use Rattle.refusals.specs.Number.{firstOf}
 use Rattle.refusals.specs.Early.{lent}
 use Rattle.refusals.proofs.Numbers.{passes, first-then, else-both}

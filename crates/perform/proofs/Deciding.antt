@@ -23,7 +23,7 @@ use Rattle.protocol.specs.Work.{Work, n, heldBlock}
 use Rattle.protocol.specs.Events.{onRecord, onPropose}
 use Rattle.protocol.specs.Refusals.{storeLength, regionRules, refusals, timerRules, proposeRules, isHeld, misplaced, nextBlock}
 use Rattle.protocol.specs.Typed.{CountersTyped}
-use Rattle.protocol.proofs.Proposals.{room-free}
+use Rattle.protocol.proofs.call.Proposals.{room-free}
 use Rattle.refusals.specs.Number.{answerOf, firstOf, orElse}
 use Rattle.refusals.specs.Early.{lent}
 use Rattle.refusals.proofs.Numbers.{else-some, else-none}

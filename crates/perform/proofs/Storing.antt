@@ -27,11 +27,11 @@ use Rattle.protocol.specs.Work.{Work, settings, n, heldBlock}
 use Rattle.protocol.specs.Events.{onRecord, onPropose}
 use Rattle.protocol.specs.Refusals.{storeLength, regular, refusals, proposeRules, noRoom, safeName}
 use Rattle.protocol.specs.Typed.{BlockTyped, CountersTyped}
-use Rattle.protocol.proofs.Events.{eventRoom, record-done, propose-done}
-use Rattle.protocol.proofs.Forms.{form-fits, fits-typed}
-use Rattle.protocol.proofs.Proposals.{Done, proposal-any}
-use Rattle.protocol.proofs.Regular.{Regular, rules-regular, hold-regular}
-use Rattle.protocol.proofs.Written.{hold-out}
+use Rattle.protocol.proofs.call.Events.{eventRoom, record-done, propose-done}
+use Rattle.protocol.proofs.call.Certificates.{form-fits, fits-typed}
+use Rattle.protocol.proofs.call.Proposals.{Done, proposal-any}
+use Rattle.protocol.proofs.call.Regular.{Regular, rules-regular, hold-regular}
+use Rattle.protocol.proofs.call.Written.{hold-out}
 use Rattle.act.specs.declared.Draft.{Draft}
 use Rattle.act.specs.Draft.{workOf, Ready}
 use Rattle.act.proofs.Steps.{emptyStore, ready-regular}

@@ -1,5 +1,5 @@
 -- The rules A to D as 01 states them, one turn of their loop, and the loop's end (01: The box: "After the event the first rule that applies is run, again
--- and again"). `Rules` runs them in phases; that this is the same loop is proved in ../proofs/Loop.antt. Assumes nothing.
+-- and again"). `Rules` runs them in phases; that this is the same loop is proved in ../proofs/loop/Loop.antt. Assumes nothing.
 use Prim.Native.Nat.{ℕ, suc, _≤_, _<_}
 use mathlib.Core.Path.{_≡_}
 use mathlib.Core.Bool.{true}

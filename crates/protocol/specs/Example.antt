@@ -1,5 +1,5 @@
 -- A RUN OF DEMAND 3: six replicas, five of them honest, and what each of these is handed, as data. That it meets every premise of OneChain.antt, and that
--- replica 1 then has released the block, is proofs/Example.antt. Assumes nothing.
+-- replica 1 then has released the block, is proofs/example/Premises.antt. Assumes nothing.
 use Prim.Native.Nat.{ℕ}
 use mathlib.Core.Bool.{Bool, _&&_}
 use mathlib.Core.List.{List, [], _∷_}

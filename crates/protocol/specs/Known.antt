@@ -1,5 +1,5 @@
 -- THE TEN RESULTS that 01 marks as proved (01: Known results), as one table, and what a line of it says of the calls. That every line holds is
--- proofs/Known.antt. Assumes nothing.
+-- proofs/example/Known.antt. Assumes nothing.
 use Prim.Native.Nat.{ℕ, suc, _≤_, _<_}
 use mathlib.Core.Path.{_≡_}
 use mathlib.Core.Bool.{cond}

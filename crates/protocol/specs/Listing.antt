@@ -1,5 +1,5 @@
 -- THE LISTING OF 01 (Known results): "Settings (1,1,0), n 6, own 1; timer 2; timer 1; timer 1; propose the name of 32 bytes 01 hex", as calls one after another,
--- and the lines that it is to print. That the calls give these lines, over any regions that are long enough, is proofs/Listing.antt. Assumes nothing.
+-- and the lines that it is to print. That the calls give these lines, over any regions that are long enough, is proofs/example/Listing.antt. Assumes nothing.
 use Prim.Native.Nat.{ℕ}
 use mathlib.Core.List.{List, [], _∷_}
 use Rattle.settings.specs.Answer.{Answer, accepts, refuses}

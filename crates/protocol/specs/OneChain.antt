@@ -1,5 +1,5 @@
 -- DEMAND 3 (01: A run of the ring): the run, the premises and the claim, each under the sentence of 01 that it states. No proof is here: it is
--- proofs/Demand3.antt. It speaks of `recordCall`, `timerCall`, `proposeCall` and `openingCall` of Calls.antt, with which the contracts of the calls in code, `replica::hydrangea_*`,
+-- proofs/chain/Demand3.antt. It speaks of `recordCall`, `timerCall`, `proposeCall` and `openingCall` of Calls.antt, with which the contracts of the calls in code, `replica::hydrangea_*`,
 -- are equations: so what is shown here of these definitions holds of the code. Outside lie the host (docs/INTERFACE.md lists its duties, which are the premises), the signatures and the compiler's back end. Assumes nothing.
 use Prim.Native.Nat.{ℕ, zero, suc, _+_, _≤_, _<_}
 use mathlib.Core.Bool.{Bool, true, false, cond}

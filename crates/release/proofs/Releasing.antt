@@ -26,7 +26,7 @@ use Rattle.counters.specs.Counters.{releasing}
 use Rattle.protocol.specs.Work.{Work, own, viewNow, tip, blocks, heldBlock, release}
 use Rattle.protocol.specs.Refusals.{regular}
 use Rattle.protocol.specs.Rules.{Pair, lowestPair, ballotViews, ruleD, again}
-use Rattle.protocol.proofs.Output.{lowest-is}
+use Rattle.protocol.proofs.call.Output.{lowest-is}
 use Rattle.act.specs.declared.Draft.{Draft}
 use Rattle.act.specs.Draft.{workOf, Left, left, leftBy, Ready}
 use Rattle.release.specs.Search.{standing, knownBy, noTarget, target, targetOf, lowestTarget}

@@ -17,10 +17,10 @@ use Rattle.memory.specs.Decided.{noChoice, nextDecided}
 use Rattle.counters.specs.Counters.{locksOf}
 use Rattle.protocol.specs.Work.{Work, settings, n, viewNow, timed, blocks, sendTimeout, keepTimeout, ownTimeout}
 use Rattle.protocol.specs.Rules.{ruleA, ruleB, ruleC, enoughVotes, each, again, settle, timeoutViews, ballotViews}
-use Rattle.protocol.proofs.Regular.{Regular, Still}
-use Rattle.protocol.proofs.Rules.{each-regular, A-regular, B-regular, C-regular}
-use Rattle.protocol.proofs.Written.{Grows, A-out, B-out, C-out}
-use Rattle.protocol.proofs.Output.{each-out, timeout-views, ballot-views}
+use Rattle.protocol.proofs.call.Regular.{Regular, Still}
+use Rattle.protocol.proofs.call.Rules.{each-regular, A-regular, B-regular, C-regular}
+use Rattle.protocol.proofs.call.Written.{Grows, A-out, B-out, C-out}
+use Rattle.protocol.proofs.call.Output.{each-out, timeout-views, ballot-views}
 use Rattle.act.specs.declared.Draft.{Draft}
 use Rattle.act.specs.Draft.{workOf, Does, Ready}
 use Rattle.act.proofs.Steps.{emptyStore, Longer, does-same, does-stay, does-then, ready-next}

@@ -34,8 +34,8 @@ use Rattle.protocol.specs.Work.{view as viewAt, sendTimeout}
 use Rattle.protocol.specs.Refusals.{viewOfProgress}
 use Rattle.protocol.specs.Events.{progress}
 use Rattle.protocol.specs.Rules.{ruleA, ruleB, ruleC, formedBlock}
-use Rattle.protocol.proofs.Forms.{form-view, formed-form, block-kind, block-form, tally-u64}
-use Rattle.protocol.proofs.FormedRead.{formed-read, formed-fits, block-read}
+use Rattle.protocol.proofs.call.Certificates.{form-view, formed-form, block-kind, block-form, tally-u64}
+use Rattle.protocol.proofs.loop.Formed.{formed-read, formed-fits, block-read}
 use Rattle.act.specs.declared.Draft.{Draft}
 use Rattle.act.specs.Draft.{workOf, Does, Ready}
 use Rattle.act.specs.Progress.{IsProgress, certificateRoom, InOutput}

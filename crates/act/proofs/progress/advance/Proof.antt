@@ -1,6 +1,6 @@
 use mathlib.Core.Path.{ap, _∙_}
 use Rattle.settings.specs.declared.View.{View}
-use Rattle.protocol.proofs.Regular.{adopting-view}
+use Rattle.protocol.proofs.call.Regular.{adopting-view}
 use Rattle.memory.proofs.Entering.{length-entered}
 use Rattle.act.proofs.Steps.{ready-facts}
 use Rattle.act.proofs.Advancing.{rec-long, lent-form, lent-most, view-read, advance-does}

@@ -1,4 +1,4 @@
-use Rattle.protocol.proofs.Regular.{form-room}
+use Rattle.protocol.proofs.call.Regular.{form-room}
 use Rattle.act.proofs.Steps.{ready-regular}
 use Rattle.act.proofs.Types.{draft-typed, name-typed}
 use Rattle.event.proofs.Proposing.{propose-ready, propose-gives}

@@ -4,7 +4,7 @@ use Rattle.settings.specs.Quorum.{replicas}
 use Rattle.wire.specs.Content.{Certificate}
 use Rattle.wire.proofs.Certificates.{within}
 use Rattle.certificate.specs.Safe.{safeCertificate}
-use Rattle.protocol.proofs.Regular.{form-room}
+use Rattle.protocol.proofs.call.Regular.{form-room}
 use Rattle.act.proofs.Advancing.{form-stands}
 use Rattle.event.proofs.Proposing.{entry-in, entry-lent, safe-is}
 use borrow.Author.Needs.{needs}

@@ -3,8 +3,8 @@ use Prim.Native.Nat.{suc, _-_, _≤_}
 use mathlib.Core.Path.{_≡_, refl}
 use Rattle.memory.specs.Layout.{entryRoom}
 use Rattle.protocol.specs.Rules.{ruleB, each}
-use Rattle.protocol.proofs.Rules.{B-regular}
-use Rattle.protocol.proofs.Written.{B-out}
+use Rattle.protocol.proofs.call.Rules.{B-regular}
+use Rattle.protocol.proofs.call.Written.{B-out}
 use Rattle.act.specs.Draft.{Does}
 use Rattle.act.proofs.Steps.{ready-facts, ready-regular}
 use Rattle.act.proofs.Types.{draft-typed}

@@ -2,8 +2,8 @@ use lib.ListN.{length}
 use Prim.Native.Nat.{suc, _-_, _≤_}
 use mathlib.Core.Path.{_≡_, refl}
 use Rattle.protocol.specs.Rules.{ruleC, each}
-use Rattle.protocol.proofs.Rules.{C-regular}
-use Rattle.protocol.proofs.Written.{C-out}
+use Rattle.protocol.proofs.call.Rules.{C-regular}
+use Rattle.protocol.proofs.call.Written.{C-out}
 use Rattle.act.specs.Draft.{Does}
 use Rattle.act.proofs.Steps.{ready-facts, ready-regular}
 use Rattle.act.proofs.Types.{draft-typed}

@@ -1,0 +1,129 @@
+-- What a call writes is a row of whole records, from every state that an opening and calls left; and what holds of one replica on any input, with no premise on
+-- records. Assumes nothing.
+use Prim.Native.Nat.{ℕ}
+use mathlib.Core.Bool.{true, false}
+use mathlib.Core.List.{List, [], _∷_, _++_, append-nil}
+use mathlib.Core.Logic.{_⊎_, inl, inr}
+use mathlib.Core.Path.{_≡_, refl, sym, ap, subst, _∙_}
+use lib.ListN.{length, drop}
+use lib.Seq.{take-append-seam}
+use Rattle.settings.specs.declared.Settings.{Settings}
+use Rattle.settings.specs.Answer.{Answer, accepts, refuses}
+use Rattle.settings.specs.Quorum.{replicas}
+use Rattle.wire.specs.Encode.{encode, joined}
+use Rattle.wire.specs.Content.{Content, vote, commit, certificate, timeout, proposal, block, release, content}
+use Rattle.wire.specs.Shape.{shapeOf, releaseShape}
+use Rattle.wire.specs.Fit.{All, Fits}
+use Rattle.wire.proofs.Slots.{all-impl}
+use Rattle.wire.proofs.ReadBack.{read-written, shape-written, release-written}
+use Rattle.safety.specs.Cluster.{HighVoted}
+use Rattle.blocks.specs.declared.Block.{Block}
+use Rattle.blocks.specs.Store.{descends}
+use Rattle.blocks.proofs.Linked.{In}
+use Rattle.protocol.specs.Work.{Work, n, tip, blocks}
+use Rattle.protocol.specs.Calls.{Replica, begin, Outcome, outcome}
+use Rattle.protocol.specs.OneCall.{Call, CallTyped, callOn, left, Handing, HandingTyped, after}
+use Rattle.protocol.specs.Whole.{ZeroCommit, WholeRecord}
+use Rattle.protocol.specs.OneChain.{calls, written, stepSays, stepGives, Opened}
+use Rattle.protocol.proofs.call.OneCall.{coreOf, call-is}
+use Rattle.protocol.proofs.chain.Invariant.{World, R, Passes, Sent}
+use Rattle.protocol.proofs.chain.Store.{stored-descends}
+use Rattle.protocol.proofs.chain.Progress.{ShownAs, Shown, all-right}
+use Rattle.protocol.proofs.chain.Call.{core-sound}
+use Rattle.protocol.proofs.chain.Run.{Keeping, forget-out, opened-keeping}
+
+-- ---- a record that a replica sends is whole
+whole : (m : ℕ) (r : List ℕ) → Sent m r → WholeRecord m r
+whole m r S = record {
+  says = S .says;
+  is = S .is;
+  reads = ap content (S .is) ∙ read-written (S .says) (S .fits);
+  passes = subst (λ (s : List ℕ). (shapeOf m s ≡ accepts tt) ⊎ ((releaseShape s ≡ accepts tt) ⊎ ZeroCommit (S .says))) (sym (S .is)) (by-kind (S .says) (S .fits) (S .passes));
+}
+  where
+    by-kind : (c : Content) → Fits c → Passes m c → (shapeOf m (encode c) ≡ accepts tt) ⊎ ((releaseShape (encode c) ≡ accepts tt) ⊎ ZeroCommit c)
+    by-kind (vote s v x) f p = inl (shape-written m (vote s v x) f p)
+    by-kind (commit s v x) f (inl p) = inl (shape-written m (commit s v x) f p)
+    by-kind (commit s v x) f (inr p) = inr (inr p)
+    by-kind (certificate s k) f p = inl (shape-written m (certificate s k) f p)
+    by-kind (timeout t) f p = inl (shape-written m (timeout t) f p)
+    by-kind (proposal s v x y h k) f p = inl (shape-written m (proposal s v x y h k) f p)
+    by-kind (block s x y h) f p = absurd p
+    by-kind (release s v x h) f p = inr (inl (release-written s v x h f))
+
+-- ---- one replica by itself: no replica counts as honest and every claim is true, so that nothing is asked of records
+abbrev pub lone-world : World
+lone-world = record { honest = λ j. false; Voted = λ i v x. Unit {0}; Committed = λ i v x. Unit {0}; TimedOut = λ i t. Unit {0}; Placed = λ b. Unit {0} }
+
+lone-high : (set : Settings) → HighVoted (R set lone-world)
+lone-high set i b h t q m = tt
+
+all-free : {A : Type 0} (P : A → Type 0) (l : List A) → ((a : A) → P a) → All P l
+unfolding All
+all-free P [] f = tt
+all-free P (a ∷ l) f = (f a, all-free P l f)
+
+lone-shown : (i : ℕ) (r : List ℕ) → Shown lone-world i r
+lone-shown i r = go (content r)
+  where
+    go : (c : Content) → ShownAs lone-world i c
+    go (vote j v x) = tt
+    go (commit j v x) = tt
+    go (certificate j k) = tt
+    go (timeout t) = tt
+    go (proposal j v x y h k) = tt
+    go (block j x y h) = tt
+    go (release j v x h) = tt
+
+module _ (set : Settings) (i : ℕ) where
+  -- a call: the records that it writes, and what it keeps
+  pub record Wrote (l : List (List ℕ)) (o : Outcome) : Type 0 where
+    pub made : List (List ℕ)
+    pub is : written o ≡ joined made
+    pub sent : All (Sent (replicas set)) made
+    pub keeping : Keeping set lone-world i (l ++ made) (left o)
+
+  lone-core : (l : List (List ℕ)) (r : Replica) (output : List ℕ) (c : Call) → CallTyped c → Keeping set lone-world i l r → (core : Answer Work) → coreOf r (length output) c ≡ core
+      → Wrote l (outcome r output core)
+  unfolding outcome written joined All
+  lone-core l r output c t K (accepts W) e =
+      let S = core-sound set lone-world (lone-high set) i l r K c (length output) W t e (all-free _ (stepSays (n (begin r)) (calls c)) (λ a f. absurd f)) (all-free _ (stepGives (calls c)) (λ b. tt)) in
+      let X = S .real (all-free (Shown lone-world i) (S .made) (lone-shown i)) in
+      record {
+        made = S .made;
+        is = take-append-seam (W .out) (drop (length (W .out)) output) ∙ S .out-is;
+        sent = all-right (Sent (replicas set)) l (S .made) (X .sent);
+        keeping = forget-out set lone-world i (l ++ S .made) W X;
+      }
+  lone-core l r output c t K (refuses a) e = record { made = []; is = refl; sent = tt; keeping = rw append-nil K }
+
+  pub lone-call : (l : List (List ℕ)) (r : Replica) (output : List ℕ) (c : Call) → CallTyped c → Keeping set lone-world i l r → Wrote l (callOn r output c)
+  lone-call l r output c t K = subst (Wrote l) (sym (call-is r output c)) (lone-core l r output c t K (coreOf r (length output) c) refl)
+
+  -- a list of calls
+  pub lone-calls : (l : List (List ℕ)) (r : Replica) (ts : List Handing) → All HandingTyped ts → Keeping set lone-world i l r → (m : List (List ℕ)) × Keeping set lone-world i m (after r ts)
+  unfolding All after
+  lone-calls l r [] h K = (l, K)
+  lone-calls l r (t ∷ ts) h K =
+      let W = lone-call l r (t .output) (t .call) (h .0) K in
+      lone-calls (l ++ W .made) (left (callOn r (t .output) (t .call))) ts (h .1) (W .keeping)
+
+  -- WHAT HOLDS OF A REPLICA that was opened as number i, on any list of calls
+  pub always : (r : Replica) → Opened set i r → (ts : List Handing) → All HandingTyped ts → (m : List (List ℕ)) × Keeping set lone-world i m (after r ts)
+  always r O ts h = lone-calls [] r ts h (opened-keeping set lone-world i r O)
+
+  -- so rule D's test that a held block leads to the tip always passes: what is held and isn't the tip descends from it
+  pub always-leads : (r : Replica) → Opened set i r → (ts : List Handing) → All HandingTyped ts → (b : Block) → In b (blocks (begin (after r ts)))
+      → descends (tip (begin (after r ts))) (blocks (begin (after r ts))) b ≡ true
+  always-leads r O ts h b p =
+      let K = always r O ts h in
+      let W = begin (after r ts) in
+      stored-descends set lone-world (K .0) (tip W) (blocks W) (K .1 .chained) b p
+
+  -- WHAT A CALL WRITES: whole records one after another
+  pub writes-whole : (r : Replica) → Opened set i r → (ts : List Handing) → All HandingTyped ts → (output : List ℕ) (c : Call) → CallTyped c
+      → (l : List (List ℕ)) × (written (callOn (after r ts) output c) ≡ joined l) × All (WholeRecord (replicas set)) l
+  writes-whole r O ts h output c t =
+      let K = always r O ts h in
+      let W = lone-call (K .0) (after r ts) output c t (K .1) in
+      (W .made, W .is, all-impl _ _ (W .made) (λ q s. whole (replicas set) q s) (W .sent))

@@ -1,0 +1,246 @@
+-- The run of specs/Example.antt, replica by replica: what an opening leaves, and what the proposal does to it. Replica i holds the block, votes and writes its
+-- vote. Assumes nothing.
+use Prim.Native.Nat.{ℕ, zero, suc, _≤_, _<_}
+use native.Mathlib.Omega.{arith}
+use mathlib.Core.Path.{_≡_, refl, sym, ap, subst, _∙_}
+use mathlib.Core.Bool.{false, not, _&&_}
+use mathlib.Core.List.{List, [], _∷_, append-nil}
+use borrow.Author.Tests.{eq-eqb, ne-eqb}
+use lib.Dec.{leb, lit<, lit≤}
+use lib.ListN.{length, take, set, replicate, length-replicate}
+use Rattle.codec.specs.Bytes.{IsBytes}
+use Rattle.codec.specs.Names.{nameLength, sameBytes, zeroName, lessBytes}
+use Rattle.codec.proofs.Order.{same-ne}
+use Rattle.wire.specs.Fields.{progressOf}
+use Rattle.wire.specs.Content.{Certificate, byBlock, certificateOf, Content, proposal}
+use Rattle.wire.specs.Encode.{certificateBytes, encode, joined}
+use Rattle.wire.specs.Fit.{IsName, All, CertificateFits, Fits, CertificateProper, Proper}
+use Rattle.wire.proofs.Tables.{stands-encode}
+use Rattle.wire.proofs.Contents.{certificate-back}
+use Rattle.wire.proofs.Facts.{Quiet}
+use Rattle.certificate.specs.Rank.{outranks, adopted}
+use Rattle.certificate.specs.Good.{isGood, progressGood}
+use Rattle.certificate.specs.Safe.{safeCertificate}
+use Rattle.blocks.specs.declared.Block.{Block}
+use Rattle.blocks.specs.Store.{genesis, find, held}
+use Rattle.memory.specs.Layout.{memoryLength, voteRow, settingsOf, ownOf, blockCountOf, withBlockCount}
+use Rattle.memory.specs.Kept.{keep}
+use Rattle.memory.specs.Window.{leaderOf}
+use Rattle.memory.proofs.Apart.{votes, rowOf, sizeOf, row-head}
+use Rattle.memory.proofs.Bits.{counted, counted-one}
+use Rattle.memory.proofs.Clearing.{bytes-zero}
+use Rattle.memory.proofs.Header.{same-header, keep-head, length-with-count, bytes-with-count, count-put, count-own, count-behind}
+use Rattle.counters.specs.declared.Counters.{Counters}
+use Rattle.counters.specs.Counters.{opened, certificateOf as certificateFrom, signedOf, locksOf, withLocks, adopting, voting}
+use Rattle.protocol.specs.Work.{Work, view, n, adopt, hold, keepVote, sendVote}
+use Rattle.protocol.specs.Typed.{BlockTyped}
+use Rattle.protocol.specs.Refusals.{storeLength, noRoom, refusals}
+use Rattle.protocol.specs.Events.{propositionOf, onRecord}
+use Rattle.protocol.specs.Applies.{Done, Turns, rest}
+use Rattle.protocol.specs.Calls.{Replica, begin}
+use Rattle.protocol.specs.OneChain.{Opened}
+use Rattle.protocol.specs.Example.{six, lentMemory, lentStore, openedAs, blockName, theProposal, voteOf}
+use Rattle.protocol.proofs.call.Typing.{zero-is-name}
+use Rattle.protocol.proofs.call.Opening.{Openable, openedWork, opened-settings, opened-own, opened-count, opened-none, opened-regular, opening-takes}
+use Rattle.protocol.proofs.call.Regular.{Regular, Still}
+use Rattle.protocol.proofs.call.OneCall.{RegularReplica, begin-regular}
+use Rattle.protocol.proofs.chain.Records.{vote-framed}
+use Rattle.protocol.proofs.example.Rows.{Rows, nobody, and-also, and-false, rows-none, rows-same, rows-vote}
+use Rattle.protocol.proofs.example.Applies.{Facts, no-A, no-B, no-C-few, no-D-few}
+use Rattle.protocol.proofs.example.Calls.{Took, replicaOf, event-done, call-takes, State, Step, step}
+
+-- ---- the block and its name
+bytes-ones : (n : ℕ) → IsBytes (replicate n 1)
+bytes-ones zero i = lit< tt
+bytes-ones (suc n) zero = lit< tt
+bytes-ones (suc n) (suc i) = bytes-ones n i
+
+pub name-is : IsName blockName
+unfolding blockName
+name-is = record { size = refl; bytes = bytes-ones nameLength }
+
+pub name-not-zero : sameBytes blockName zeroName ≡ false
+unfolding blockName sameBytes
+name-not-zero = refl
+
+pub zero-not-name : sameBytes zeroName blockName ≡ false
+unfolding blockName sameBytes
+zero-not-name = refl
+
+abbrev pub theBlock : Block
+theBlock = record { name = blockName; parent = zeroName; height = record { 0 = 1 } }
+
+-- ---- the regions that are lent, and the openings
+lent-long : memoryLength ≤ length lentMemory
+unfolding lentMemory
+lent-long = omega (arith, length-replicate {A = ℕ} memoryLength 0)
+
+lent-bytes : IsBytes lentMemory
+unfolding lentMemory
+lent-bytes = bytes-zero memoryLength
+
+lent-many : storeLength ≤ length lentStore
+unfolding lentStore
+lent-many = omega (arith, length-replicate {A = Block} storeLength genesis)
+
+all-same : (n : ℕ) → All BlockTyped (replicate n genesis)
+unfolding All
+all-same zero = tt
+all-same (suc n) = (record { name = zero-is-name; parent = zero-is-name; height = lit< tt }, all-same n)
+
+lent-typed : All BlockTyped lentStore
+unfolding lentStore
+lent-typed = all-same storeLength
+
+openable : (i : ℕ) → i < 6 → Openable six i
+openable i h = record { few = lit≤ tt; bound = refl; member = h }
+
+opened-is-regular : (i : ℕ) → i < 6 → RegularReplica (openedAs i)
+opened-is-regular i h = opened-regular lentMemory lentStore six i (openable i h) lent-bytes lent-typed lent-long lent-many
+
+pub is-opened : (i : ℕ) → i < 6 → Opened six i (openedAs i)
+is-opened i h =
+    record {
+      lent = record { counters = opened; memory = lentMemory; store = lentStore };
+      counters = opened-is-regular i h .typed .counters;
+      memory = lent-bytes;
+      store = lent-typed;
+      work = openedWork lentMemory lentStore six i;
+      opens = opening-takes (record { counters = opened; memory = lentMemory; store = lentStore }) six i (openable i h) lent-long lent-many;
+      leaves = refl;
+    }
+
+pub opened-state : (i : ℕ) → i < 6 → State i opened 0 [] 1 nobody nobody (openedAs i)
+opened-state i h =
+    let o = openable i h in
+    record {
+      memory = openedAs i .memory;
+      store = lentStore;
+      is = refl;
+      regular = opened-is-regular i h;
+      settings = opened-settings lentMemory six i o lent-long;
+      own = opened-own lentMemory six i o lent-long;
+      count = opened-count lentMemory six i o lent-long;
+      blocks = refl;
+      rows = rows-none blockName (openedAs i .memory) (opened-none lentMemory six i o lent-long);
+    }
+
+-- ---- the proposal
+abbrev genesisFirst : Certificate
+genesisFirst = byBlock 0 zeroName 0
+
+abbrev proposed : Content
+proposed = proposal 0 1 blockName zeroName 1 genesisFirst
+
+genesis-fits : CertificateFits genesisFirst
+unfolding CertificateFits
+genesis-fits = (lit< tt, zero-is-name, lit< tt)
+
+pub proposal-fits : Fits proposed
+unfolding Fits
+proposal-fits = (lit< tt, lit< tt, name-is, zero-is-name, lit< tt, genesis-fits)
+
+proposal-is : encode proposed ≡ theProposal
+unfolding encode certificateBytes
+proposal-is = refl
+
+its-certificate : certificateOf (progressOf (encode proposed)) ≡ genesisFirst
+its-certificate = ap certificateOf (stands-encode proposed proposal-fits .rest) ∙ certificate-back 0 genesisFirst (lit< tt) genesis-fits
+
+-- one vote is kept
+one-vote : (i : ℕ) → i < 6 → counted (and-also i nobody) 6 ≡ 1
+unfolding counted
+one-vote i h = counted-one nobody (and-also i nobody) i 6 h refl (rw (eq-eqb i i refl)) (λ j l d. rw (ne-eqb j i d))
+
+first-set : (st : List Block) (b : Block) → 1 ≤ length st → take 1 (set st 0 b) ≡ b ∷ []
+first-set [] b h = absurd (omega arith)
+first-set (a ∷ st) b h = refl
+
+-- the counters after the vote
+unfoldable pub afterVote : Counters
+afterVote = voting opened (record { view = view 1; name = blockName })
+
+module _ (i : ℕ) (low : 1 ≤ i) (high : i < 6) (m : List ℕ) (st : List Block) (settings : settingsOf m ≡ six) (own : ownOf m ≡ i) (count : blockCountOf m ≡ 0)
+    (R : RegularReplica (record { counters = opened; memory = m; store = st })) where
+  abbrev before : Replica
+  before = record { counters = opened; memory = m; store = st }
+
+  is-proper : Proper (n (begin before)) proposed
+  unfolding Proper CertificateProper
+  is-proper = (same-ne blockName zeroName name-not-zero, rw settings (lit< tt), rw settings (lit< tt))
+
+  has-room : noRoom (begin before) blockName ≡ false
+  has-room = ap (λ (k : ℕ). not (held (opened .tip) (take k st) blockName .is) && leb storeLength k) count ∙ and-false (not (held (opened .tip) [] blockName .is))
+
+  not-refused : Quiet (refusals (begin before) (encode proposed) proposed)
+  unfolding refusals opened leaderOf progressGood isGood sameBytes safeCertificate held find
+  not-refused =
+      (rw (settings, own, ne-eqb 0 i (omega arith)), (refl, (refl, (refl, (refl, (rw (zero-not-name, count), (refl, (refl, (has-room, tt)))))))))
+
+  with : List ℕ
+  with = keep (withBlockCount m 1) (voteRow 1) nameLength i blockName
+
+  after : Work
+  after = record { counters = afterVote; memory = with; store = set st 0 theBlock; out = voteOf i }
+
+  event : onRecord (encode proposed) proposed (begin before) ≡ after
+  unfolding onRecord propositionOf adopt hold sendVote keepVote after with opened afterVote voting adopting withLocks adopted outranks locksOf certificateFrom signedOf safeCertificate held find lessBytes
+  event = rw (its-certificate, count, zero-not-name, count-own m 1, own)
+
+  module _ (rows : Rows blockName 1 nobody nobody m) where
+    rows-after : Rows blockName 1 (and-also i nobody) nobody with
+    unfolding with
+    rows-after =
+        rows-vote blockName 1 nobody nobody (withBlockCount m 1) i (bytes-with-count m 1 (R .typed .memory)) (omega (arith, length-with-count m 1, R .memory-long)) (name-is .size) (omega arith)
+        (rows-same blockName 1 nobody nobody m (withBlockCount m 1) (λ t v. count-behind m 1 (rowOf t v) (sizeOf t) (omega (arith, row-head t v))) rows) refl
+
+    regular-after : Regular after
+    regular-after = subst Regular event (event-done before R proposed proposal-fits is-proper not-refused .regular)
+
+    still : Still (begin before) after
+    still = subst (Still (begin before)) event (event-done before R proposed proposal-fits is-proper not-refused .still)
+
+    facts : Facts blockName 1 (and-also i nobody) nobody after
+    unfolding after afterVote voting opened
+    facts = record { settings = still .settings ∙ settings; view = refl; low = lit≤ tt; high = lit≤ tt; rows = rows-after }
+
+    done : Done after
+    unfolding counted
+    done =
+        let one = one-vote i high in
+        record {
+          noA = no-A blockName 1 (and-also i nobody) nobody after facts;
+          noB = no-B blockName 1 (and-also i nobody) nobody after facts;
+          noC = no-C-few blockName 1 (and-also i nobody) nobody after facts (omega arith);
+          noD = no-D-few blockName 1 (and-also i nobody) nobody after facts (omega arith) (lit≤ tt);
+        }
+
+    takes : Took before theProposal (voteOf i ∷ []) (replicaOf after)
+    unfolding after joined All
+    takes =
+        rw proposal-is at
+        (call-takes before R proposed proposal-fits is-proper not-refused after (subst (λ (W : Work). Turns W after) (sym event) rest) done (voteOf i ∷ [])
+        (vote-framed 1 i 1 blockName (name-is .size), tt) (sym (append-nil (voteOf i))))
+
+    state-after : State i afterVote 1 (theBlock ∷ []) 1 (and-also i nobody) nobody (replicaOf after)
+    unfolding after with
+    state-after =
+        record {
+          memory = with;
+          store = set st 0 theBlock;
+          is = refl;
+          regular = begin-regular after regular-after;
+          settings = still .settings ∙ settings;
+          own = still .own ∙ own;
+          count = same-header (withBlockCount m 1) with (keep-head (withBlockCount m 1) votes 1 i blockName (name-is .size) (omega arith)) .blockCount
+              ∙ count-put m 1 (lit< tt) (omega (arith, R .memory-long));
+          blocks = first-set st theBlock (omega (arith, R .store-long));
+          rows = rows-after;
+        }
+
+-- THE PROPOSAL, handed to replica i as its opening left it
+pub proposal-step : (i : ℕ) → 1 ≤ i → i < 6 → (r : Replica) → State i opened 0 [] 1 nobody nobody r
+    → Step r theProposal (voteOf i ∷ []) (State i afterVote 1 (theBlock ∷ []) 1 (and-also i nobody) nobody)
+proposal-step i low high r s =
+    step r _ _ theProposal (voteOf i ∷ []) (s .is) (takes i low high (s .memory) (s .store) (s .settings) (s .own) (s .count) (s .regular) (s .rows))
+    (state-after i low high (s .memory) (s .store) (s .settings) (s .own) (s .count) (s .regular) (s .rows))

@@ -1,0 +1,194 @@
+-- The run of specs/Example.antt: replica 1, in view 2, is handed one vote after another. While one is missing no rule applies; with all six it releases the
+-- block. Assumes nothing.
+use Prim.Native.Nat.{ℕ, _≤_, _<_}
+use native.Mathlib.Omega.{arith}
+use mathlib.Core.Path.{_≡_, refl, sym, ap, subst, _∙_}
+use mathlib.Core.Bool.{Bool, false}
+use mathlib.Core.List.{List, [], _∷_}
+use borrow.Author.Tests.{lt-leb, ne-eqb}
+use lib.Dec.{lit<, lit≤}
+use lib.ListN.{length, take}
+use Rattle.codec.specs.Names.{nameLength, sameBytes, zeroName}
+use Rattle.codec.proofs.Order.{same-ne, same-refl}
+use Rattle.wire.specs.Content.{Content, vote}
+use Rattle.wire.specs.Encode.{releaseBytes, encode, joined}
+use Rattle.wire.specs.Fit.{All, Fits, Proper}
+use Rattle.wire.proofs.Facts.{Quiet}
+use Rattle.blocks.specs.declared.Block.{Block}
+use Rattle.blocks.specs.declared.Found.{Found}
+use Rattle.blocks.specs.Store.{genesis, found, find, held, leads, descends, line, ancestry, releases, kept}
+use Rattle.memory.specs.Layout.{voteRow, settingsOf, ownOf, blockCountOf, withBlockCount}
+use Rattle.memory.specs.Kept.{has, keep}
+use Rattle.memory.proofs.Apart.{votes, rowOf, sizeOf, row-head}
+use Rattle.memory.proofs.Bits.{counted}
+use Rattle.memory.proofs.Header.{same-header, keep-head, count-settings, count-behind}
+use Rattle.counters.specs.Counters.{certificateOf as certificateFrom, locksOf, releasing}
+use Rattle.protocol.specs.Work.{Work, n, own, blocks, heldBlock, keepVote, release}
+use Rattle.protocol.specs.Refusals.{refusals}
+use Rattle.protocol.specs.Events.{onRecord}
+use Rattle.protocol.specs.Applies.{Done, Turns, turn, rest, runD, NoC}
+use Rattle.protocol.specs.Calls.{Replica, begin}
+use Rattle.protocol.specs.Example.{six, blockName, voteOf}
+use Rattle.protocol.proofs.call.Regular.{Regular, Still}
+use Rattle.protocol.proofs.call.OneCall.{RegularReplica, begin-regular}
+use Rattle.protocol.proofs.chain.Records.{release-framed}
+use Rattle.protocol.proofs.example.Rows.{Rows, and-also, rows-same, rows-vote}
+use Rattle.protocol.proofs.example.Applies.{Facts, no-A, no-B, no-C-locked, no-D-few, no-D-tip, turn-D}
+use Rattle.protocol.proofs.example.Calls.{Took, replicaOf, event-done, call-takes, State, Step, step}
+use Rattle.protocol.proofs.example.Proposal.{name-is, name-not-zero, zero-not-name, theBlock}
+use Rattle.protocol.proofs.example.Certificate.{afterCertificate, oneself}
+
+pub vote-fits : (j : ℕ) → j < 6 → Fits (vote j 1 blockName)
+unfolding Fits
+vote-fits j h = (omega arith, lit< tt, name-is)
+
+-- what replica 1 writes
+unfoldable pub released : List ℕ
+released = releaseBytes 1 1 blockName 1
+
+module _ (j : ℕ) (low : j < 6) (other : j ≡ 1 → ⊥) (A : ℕ → Bool) (new : A j ≡ false) (m : List ℕ) (st : List Block) (settings : settingsOf m ≡ six) (is-one : ownOf m ≡ 1)
+    (count : blockCountOf m ≡ 1) (held-ones : take 1 st ≡ theBlock ∷ []) (rows : Rows blockName 2 A oneself m)
+    (R : RegularReplica (record { counters = afterCertificate; memory = m; store = st })) where
+  abbrev before : Replica
+  before = record { counters = afterCertificate; memory = m; store = st }
+
+  abbrev its : Content
+  its = vote j 1 blockName
+
+  is-proper : Proper (n (begin before)) its
+  unfolding Proper
+  is-proper = same-ne blockName zeroName name-not-zero
+
+  none : has m (voteRow 1) j ≡ false
+  none = rows .voted 1 j (lit≤ tt) (lit≤ tt) ∙ new
+
+  not-refused : Quiet (refusals (begin before) (encode its) its)
+  unfolding refusals afterCertificate
+  not-refused = (rw (settings, is-one, lt-leb 6 j low, ne-eqb j 1 other), (refl, (refl, (rw none, (none, tt)))))
+
+  with : List ℕ
+  with = keep m (voteRow 1) nameLength j blockName
+
+  after : Work
+  after = record { counters = afterCertificate; memory = with; store = st; out = [] }
+
+  event : onRecord (encode its) its (begin before) ≡ after
+  unfolding onRecord keepVote after with
+  event = refl
+
+  regular-after : Regular after
+  regular-after = subst Regular event (event-done before R its (vote-fits j low) is-proper not-refused .regular)
+
+  still : Still (begin before) after
+  still = subst (Still (begin before)) event (event-done before R its (vote-fits j low) is-proper not-refused .still)
+
+  rows-after : Rows blockName 2 (and-also j A) oneself with
+  unfolding with
+  rows-after = rows-vote blockName 2 A oneself m j (R .typed .memory) (R .memory-long) (name-is .size) (omega arith) rows new
+
+  facts : Facts blockName 2 (and-also j A) oneself after
+  unfolding after afterCertificate
+  facts = record { settings = still .settings ∙ settings; view = refl; low = lit≤ tt; high = lit≤ tt; rows = rows-after }
+
+  locked : NoC after
+  unfolding after afterCertificate locksOf certificateFrom
+  locked = no-C-locked blockName 2 (and-also j A) oneself after facts 60 refl
+
+  count-after : blockCountOf with ≡ 1
+  unfolding with
+  count-after = same-header m with (keep-head m votes 1 j blockName (name-is .size) (omega arith)) .blockCount ∙ count
+
+  -- ---- a vote is missing still
+  module _ (few : counted (and-also j A) 6 ≤ 5) where
+    done : Done after
+    unfolding counted
+    done =
+        record {
+          noA = no-A blockName 2 (and-also j A) oneself after facts;
+          noB = no-B blockName 2 (and-also j A) oneself after facts;
+          noC = locked;
+          noD = no-D-few blockName 2 (and-also j A) oneself after facts few (lit≤ tt);
+        }
+
+    takes : Took before (voteOf j) [] (replicaOf after)
+    unfolding after joined All encode
+    takes = call-takes before R its (vote-fits j low) is-proper not-refused after (subst (λ (W : Work). Turns W after) (sym event) rest) done [] tt refl
+
+    state-after : State 1 afterCertificate 1 (theBlock ∷ []) 2 (and-also j A) oneself (replicaOf after)
+    unfolding after
+    state-after =
+        record {
+          memory = with;
+          store = st;
+          is = refl;
+          regular = begin-regular after regular-after;
+          settings = still .settings ∙ settings;
+          own = still .own ∙ is-one;
+          count = count-after;
+          blocks = held-ones;
+          rows = rows-after;
+        }
+
+  -- ---- all six voted
+  module _ (all : counted (and-also j A) 6 ≡ 6) where
+    blocks-are : blocks after ≡ theBlock ∷ []
+    unfolding after
+    blocks-are = ap (λ (k : ℕ). take k st) count-after ∙ held-ones
+
+    found-it : heldBlock after blockName ≡ found theBlock
+    unfolding after held find afterCertificate
+    found-it = ap (λ (l : List Block). held genesis l blockName) blocks-are ∙ rw (zero-not-name, same-refl blockName)
+
+    end : Work
+    end = runD 1 blockName after
+
+    turns : Turns after end
+    unfolding end after afterCertificate descends leads sameBytes counted
+    turns =
+        turn (turn-D blockName 2 (and-also j A) oneself after facts locked all (lit≤ tt) (ap (λ (x : Found). x .is) found-it) (rw found-it (lit< tt)) (rw found-it)) rest
+
+    -- its releases, its locks, its rows and its tip
+    writes : end .out ≡ joined (released ∷ [])
+    unfolding end after release afterCertificate releases ancestry line sameBytes joined released
+    writes = rw (found-it, still .own, is-one)
+
+    facts-end : Facts blockName 2 (and-also j A) oneself end
+    unfolding end after release releasing afterCertificate
+    facts-end =
+        let k = length (kept (heldBlock after blockName .block) (blocks after)) in
+        record {
+          settings = count-settings with k ∙ still .settings ∙ settings;
+          view = refl;
+          low = lit≤ tt;
+          high = lit≤ tt;
+          rows = rows-same blockName 2 (and-also j A) oneself with (withBlockCount with k) (λ t v. count-behind with k (rowOf t v) (sizeOf t) (omega (arith, row-head t v))) rows-after;
+        }
+
+    done-end : Done end
+    unfolding end after release releasing afterCertificate locksOf certificateFrom counted held
+    done-end =
+        record {
+          noA = no-A blockName 2 (and-also j A) oneself end facts-end;
+          noB = no-B blockName 2 (and-also j A) oneself end facts-end;
+          noC = no-C-locked blockName 2 (and-also j A) oneself end facts-end 60 refl;
+          noD = no-D-tip blockName 2 (and-also j A) oneself end facts-end (lit≤ tt) (rw (found-it, same-refl blockName) (lit≤ tt));
+        }
+
+    releases-it : Took before (voteOf j) (released ∷ []) (replicaOf end)
+    unfolding joined All encode released
+    releases-it =
+        call-takes before R its (vote-fits j low) is-proper not-refused end (subst (λ (W : Work). Turns W end) (sym event) turns) done-end (released ∷ [])
+        (release-framed 1 1 blockName 1 (name-is .size), tt) writes
+
+-- A VOTE, handed to replica 1 that is locked in view 2: it is kept
+pub vote-step : (j : ℕ) → j < 6 → (j ≡ 1 → ⊥) → (A : ℕ → Bool) → A j ≡ false → counted (and-also j A) 6 ≤ 5 → (r : Replica) → State 1 afterCertificate 1 (theBlock ∷ []) 2 A oneself r
+    → Step r (voteOf j) [] (State 1 afterCertificate 1 (theBlock ∷ []) 2 (and-also j A) oneself)
+vote-step j low other A new few r s =
+    step r _ _ (voteOf j) [] (s .is) (takes j low other A new (s .memory) (s .store) (s .settings) (s .own) (s .count) (s .blocks) (s .rows) (s .regular) few)
+    (state-after j low other A new (s .memory) (s .store) (s .settings) (s .own) (s .count) (s .blocks) (s .rows) (s .regular) few)
+
+-- THE LAST VOTE: the block is released
+pub release-step : (j : ℕ) → j < 6 → (j ≡ 1 → ⊥) → (A : ℕ → Bool) → A j ≡ false → counted (and-also j A) 6 ≡ 6 → (r : Replica) → State 1 afterCertificate 1 (theBlock ∷ []) 2 A oneself r
+    → Step r (voteOf j) (released ∷ []) (λ s. Unit {0})
+release-step j low other A new all r s =
+    step r _ _ (voteOf j) (released ∷ []) (s .is) (releases-it j low other A new (s .memory) (s .store) (s .settings) (s .own) (s .count) (s .blocks) (s .rows) (s .regular) all) tt
