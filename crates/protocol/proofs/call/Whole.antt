@@ -26,11 +26,11 @@ use Rattle.protocol.specs.OneCall.{Call, CallTyped, callOn, left, Handin
 use Rattle.protocol.specs.Whole.{ZeroCommit, WholeRecord}
 use Rattle.protocol.specs.OneChain.{calls, written, stepSays, stepGives, Opened}
 use Rattle.protocol.proofs.call.OneCall.{coreOf, call-is}
-use Rattle.protocol.proofs.chain.Invariant.{World, R, Passes, Sent}
+use Rattle.protocol.proofs.chain.Invariant.{History, R, Passes, Sent}
 use Rattle.protocol.proofs.chain.Store.{stored-descends}
-use Rattle.protocol.proofs.chain.Progress.{ShownAs, Shown, all-right}
+use Rattle.protocol.proofs.chain.Progress.{RecordOf, RecordIn, all-right}
 use Rattle.protocol.proofs.chain.Call.{core-sound}
-use Rattle.protocol.proofs.chain.Run.{Keeping, forget-out, opened-keeping}
+use Rattle.protocol.proofs.chain.Run.{ReplicaInvariant, forget-out, opening-establishes}
 
 -- ---- a record that a replica sends is whole
 whole : (m : ℕ) (r : List ℕ) → Sent m r → WholeRecord m r
@@ -52,10 +52,10 @@ whole m r S = record {
     by-kind (release s v x h) f p = inr (inl (release-written s v x h f))
 
 -- ---- one replica by itself: no replica counts as honest and every claim is true, so that nothing is asked of records
-abbrev pub lone-world : World
-lone-world = record { honest = λ j. false; Voted = λ i v x. Unit {0}; Committed = λ i v x. Unit {0}; TimedOut = λ i t. Unit {0}; Placed = λ b. Unit {0} }
+abbrev pub lone-history : History
+lone-history = record { honest = λ j. false; Voted = λ i v x. Unit {0}; Committed = λ i v x. Unit {0}; TimedOut = λ i t. Unit {0}; Placed = λ b. Unit {0} }
 
-lone-high : (set : Settings) → HighVoted (R set lone-world)
+lone-high : (set : Settings) → HighVoted (R set lone-history)
 lone-high set i b h t q m = tt
 
 all-free : {A : Type 0} (P : A → Type 0) (l : List A) → ((a : A) → P a) → All P l
@@ -63,10 +63,10 @@ unfolding All
 all-free P [] f = tt
 all-free P (a ∷ l) f = (f a, all-free P l f)
 
-lone-shown : (i : ℕ) (r : List ℕ) → Shown lone-world i r
-lone-shown i r = go (content r)
+lone-record-in : (i : ℕ) (r : List ℕ) → RecordIn lone-history i r
+lone-record-in i r = go (content r)
   where
-    go : (c : Content) → ShownAs lone-world i c
+    go : (c : Content) → RecordOf lone-history i c
     go (vote j v x) = tt
     go (commit j v x) = tt
     go (certificate j k) = tt
@@ -81,27 +81,27 @@ module _ (set : Settings) (i : ℕ) where
     pub made : List (List ℕ)
     pub is : written o ≡ joined made
     pub sent : All (Sent (replicas set)) made
-    pub keeping : Keeping set lone-world i (l ++ made) (left o)
+    pub keeping : ReplicaInvariant set lone-history i (l ++ made) (left o)
 
-  lone-core : (l : List (List ℕ)) (r : Replica) (output : List ℕ) (c : Call) → CallTyped c → Keeping set lone-world i l r → (core : Answer Work) → coreOf r (length output) c ≡ core
+  lone-core : (l : List (List ℕ)) (r : Replica) (output : List ℕ) (c : Call) → CallTyped c → ReplicaInvariant set lone-history i l r → (core : Answer Work) → coreOf r (length output) c ≡ core
       → Wrote l (outcome r output core)
   unfolding outcome written joined All
   lone-core l r output c t K (accepts W) e =
-      let S = core-sound set lone-world (lone-high set) i l r K c (length output) W t e (all-free _ (stepSays (n (begin r)) (calls c)) (λ a f. absurd f)) (all-free _ (stepGives (calls c)) (λ b. tt)) in
-      let X = S .real (all-free (Shown lone-world i) (S .made) (lone-shown i)) in
+      let S = core-sound set lone-history (lone-high set) i l r K c (length output) W t e (all-free _ (stepSays (n (begin r)) (calls c)) (λ a f. absurd f)) (all-free _ (stepGives (calls c)) (λ b. tt)) in
+      let X = S .invariant (all-free (RecordIn lone-history i) (S .made) (lone-record-in i)) in
       record {
         made = S .made;
         is = take-append-seam (W .out) (drop (length (W .out)) output) ∙ S .out-is;
         sent = all-right (Sent (replicas set)) l (S .made) (X .sent);
-        keeping = forget-out set lone-world i (l ++ S .made) W X;
+        keeping = forget-out set lone-history i (l ++ S .made) W X;
       }
   lone-core l r output c t K (refuses a) e = record { made = []; is = refl; sent = tt; keeping = rw append-nil K }
 
-  pub lone-call : (l : List (List ℕ)) (r : Replica) (output : List ℕ) (c : Call) → CallTyped c → Keeping set lone-world i l r → Wrote l (callOn r output c)
+  pub lone-call : (l : List (List ℕ)) (r : Replica) (output : List ℕ) (c : Call) → CallTyped c → ReplicaInvariant set lone-history i l r → Wrote l (callOn r output c)
   lone-call l r output c t K = subst (Wrote l) (sym (call-is r output c)) (lone-core l r output c t K (coreOf r (length output) c) refl)
 
   -- a list of calls
-  pub lone-calls : (l : List (List ℕ)) (r : Replica) (ts : List Handing) → All HandingTyped ts → Keeping set lone-world i l r → (m : List (List ℕ)) × Keeping set lone-world i m (after r ts)
+  pub lone-calls : (l : List (List ℕ)) (r : Replica) (ts : List Handing) → All HandingTyped ts → ReplicaInvariant set lone-history i l r → (m : List (List ℕ)) × ReplicaInvariant set lone-history i m (after r ts)
   unfolding All after
   lone-calls l r [] h K = (l, K)
   lone-calls l r (t ∷ ts) h K =
@@ -109,8 +109,8 @@ module _ (set : Settings) (i : ℕ) where
       lone-calls (l ++ W .made) (left (callOn r (t .output) (t .call))) ts (h .1) (W .keeping)
 
   -- WHAT HOLDS OF A REPLICA that was opened as number i, on any list of calls
-  pub always : (r : Replica) → Opened set i r → (ts : List Handing) → All HandingTyped ts → (m : List (List ℕ)) × Keeping set lone-world i m (after r ts)
-  always r O ts h = lone-calls [] r ts h (opened-keeping set lone-world i r O)
+  pub always : (r : Replica) → Opened set i r → (ts : List Handing) → All HandingTyped ts → (m : List (List ℕ)) × ReplicaInvariant set lone-history i m (after r ts)
+  always r O ts h = lone-calls [] r ts h (opening-establishes set lone-history i r O)
 
   -- so rule D's test that a held block leads to the tip always passes: what is held and isn't the tip descends from it
   pub always-leads : (r : Replica) → Opened set i r → (ts : List Handing) → All HandingTyped ts → (b : Block) → In b (blocks (begin (after r ts)))
@@ -118,7 +118,7 @@ module _ (set : Settings) (i : ℕ) where
   always-leads r O ts h b p =
       let K = always r O ts h in
       let W = begin (after r ts) in
-      stored-descends set lone-world (K .0) (tip W) (blocks W) (K .1 .chained) b p
+      stored-descends set lone-history (K .0) (tip W) (blocks W) (K .1 .chained) b p
 
   -- WHAT A CALL WRITES: whole records one after another
   pub writes-whole : (r : Replica) → Opened set i r → (ts : List Handing) → All HandingTyped ts → (output : List ℕ) (c : Call) → CallTyped c

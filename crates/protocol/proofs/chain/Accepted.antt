@@ -38,13 +38,13 @@ use Rattle.protocol.specs.Refusals.{storeLength, notOther, belowView, ab
 use Rattle.protocol.specs.Events.{mayVote, safeIn, progress, propositionOf}
 use Rattle.protocol.proofs.call.Regular.{Regular}
 use Rattle.protocol.proofs.Branch.{by-cases}
-use Rattle.protocol.proofs.chain.Invariant.{Name, World, R, size, traced, TimeoutKept, ParentHeld, VoteGround, Real, placementOf}
+use Rattle.protocol.proofs.chain.Invariant.{Name, History, R, size, traced, TimeoutKept, ParentHeld, VoteGround, Invariant, placementOf}
 use Rattle.protocol.proofs.chain.Store.{as-found}
 use Rattle.protocol.proofs.chain.Records.{joined-more, vote-framed}
-use Rattle.protocol.proofs.chain.Actions.{size-is, few, vote-real, commit-real, timeout-real}
-use Rattle.protocol.proofs.chain.Acts.{voted-real}
-use Rattle.protocol.proofs.chain.Blocks.{hold-real}
-use Rattle.protocol.proofs.chain.Progress.{framed-more, all-left, all-right, all-head, Shown, shown-as, Sound, Seen, grown, TakenAt, over-safe, adopted-real, progress-went}
+use Rattle.protocol.proofs.chain.Actions.{size-is, few, vote-invariant, commit-invariant, timeout-invariant}
+use Rattle.protocol.proofs.chain.Acts.{voted-invariant}
+use Rattle.protocol.proofs.chain.Blocks.{hold-invariant}
+use Rattle.protocol.proofs.chain.Progress.{framed-more, all-left, all-right, all-head, RecordIn, record-of, Sound, Recorded, grown, TakenAt, over-safe, adopted-invariant, progressed}
 
 -- ---- what the tests leave
 pub other-is : (W : Work) (j : ℕ) → notOther W j ≡ false → j < n W
@@ -66,7 +66,7 @@ parent-is W b e =
     let q = and-true _ _ (not-false _ (p .0)) in
     ((q .0, eqb-true (b .height .0) (suc (heldBlock W (b .parent) .block .height .0)) (q .1)), ltb-false lastHeight (b .height .0) (p .1))
 
-module _ (set : Settings) (w : World) where
+module _ (set : Settings) (w : History) where
   pub held-parent : (tip : Block) (store : List Block) (b : Block) → held tip store (b .parent) .is ≡ true → b .height .0 ≡ suc (held tip store (b .parent) .block .height .0)
       → ParentHeld set w tip store b
   unfolding held
@@ -77,7 +77,7 @@ module _ (set : Settings) (w : World) where
       go true e is high = inl (sym (same-eq (tip .name) (b .parent) e), high)
       go false e is high = inr (find (b .parent) store .block, as-found (find (b .parent) store) is, high)
 
-module _ (set : Settings) (w : World) (H : HighVoted (R set w)) (i : ℕ) (l₀ : List (List ℕ)) where
+module _ (set : Settings) (w : History) (H : HighVoted (R set w)) (i : ℕ) (l₀ : List (List ℕ)) where
   abbrev Snd : Work → Type 0
   Snd W = Sound set w i l₀ W
 
@@ -85,35 +85,35 @@ module _ (set : Settings) (w : World) (H : HighVoted (R set w)) (i : ℕ) (l₀ 
     abbrev l : List (List ℕ)
     l = l₀ ++ S .made
 
-    nset : Seen set w i l₀ S → n W ≡ size set w
-    nset a = size-is set w i (viewNow W) W l (S .real a)
+    nset : Recorded set w i l₀ S → n W ≡ size set w
+    nset a = size-is set w i (viewNow W) W l (S .invariant a)
 
     -- ---- what others sent is kept
     pub vote-sound : (j v : ℕ) (x : Name) → j < n W → Windowed votes (viewNow W) v → v < lastView → IsName x → (T (w .honest j) → w .Voted j v x) → Snd (keepVote W v j x)
     unfolding keepVote
-    vote-sound j v x low k small name told = record {
+    vote-sound j v x low k small name acted = record {
       made = S .made;
       out-is = S .out-is;
       framed = S .framed;
-      real = λ a. vote-real set w i (viewNow W) W l v j x (name .bytes) (omega (arith, nset a, low)) (S .real a) (name .size) k (record { below = small; truly = told });
+      invariant = λ a. vote-invariant set w i (viewNow W) W l v j x (name .bytes) (omega (arith, nset a, low)) (S .invariant a) (name .size) k (record { below = small; truly = acted });
     }
 
     pub commit-sound : (j v : ℕ) (x : Name) → j < n W → Windowed commits (viewNow W) v → v < lastView → IsName x → (T (w .honest j) → w .Committed j v x) → Snd (keepCommit W v j x)
     unfolding keepCommit
-    commit-sound j v x low k small name told = record {
+    commit-sound j v x low k small name acted = record {
       made = S .made;
       out-is = S .out-is;
       framed = S .framed;
-      real = λ a. commit-real set w i (viewNow W) W l v j x (name .bytes) (omega (arith, nset a, low)) (S .real a) (name .size) k (record { below = small; truly = told });
+      invariant = λ a. commit-invariant set w i (viewNow W) W l v j x (name .bytes) (omega (arith, nset a, low)) (S .invariant a) (name .size) k (record { below = small; truly = acted });
     }
 
-    pub kept-sound : (v j : ℕ) (e : List ℕ) → j < n W → Windowed timeouts (viewNow W) v → IsBytes e → length e ≡ timeoutLength → (Seen set w i l₀ S → TimeoutKept set w v j e) → Snd (keepTimeout W v j e)
+    pub kept-sound : (v j : ℕ) (e : List ℕ) → j < n W → Windowed timeouts (viewNow W) v → IsBytes e → length e ≡ timeoutLength → (Recorded set w i l₀ S → TimeoutKept set w v j e) → Snd (keepTimeout W v j e)
     unfolding keepTimeout
-    kept-sound v j e low k bytes long told = record {
+    kept-sound v j e low k bytes long acted = record {
       made = S .made;
       out-is = S .out-is;
       framed = S .framed;
-      real = λ a. timeout-real set w i (viewNow W) W l v j e bytes (omega (arith, nset a, low)) (S .real a) long k (told a);
+      invariant = λ a. timeout-invariant set w i (viewNow W) W l v j e bytes (omega (arith, nset a, low)) (S .invariant a) long k (acted a);
     }
 
   -- ---- holding a block
@@ -132,17 +132,17 @@ module _ (set : Settings) (w : World) (H : HighVoted (R set w)) (i : ℕ) (l₀ 
   pub count-is : (W : Work) → Regular W → blockCountOf (W .memory) ≡ length (blocks W)
   count-is W r = omega (arith, length-take (blockCountOf (W .memory)) (W .store), r .room, r .store-long)
 
-  module _ (W : Work) (S : Snd W) (b : Block) (typed : Seen set w i l₀ S → BlockTyped b)
-      (ready : Seen set w i l₀ S → heldBlock W (b .name) .is ≡ false → (length (blocks W) < storeLength) × w .Placed (placementOf b) × (b .height .0 ≤ lastHeight) × ParentHeld set w (tip W) (blocks W) b) where
+  module _ (W : Work) (S : Snd W) (b : Block) (typed : Recorded set w i l₀ S → BlockTyped b)
+      (ready : Recorded set w i l₀ S → heldBlock W (b .name) .is ≡ false → (length (blocks W) < storeLength) × w .Placed (placementOf b) × (b .height .0 ≤ lastHeight) × ParentHeld set w (tip W) (blocks W) b) where
     pub hold-sound : Snd (hold W b)
     hold-sound = record {
       made = S .made;
       out-is = hold-out W b ∙ S .out-is;
       framed = S .framed;
-      real = λ a.
-          let X = S .real a in
-          subst (λ (r : ℕ). Real set w i r (hold W b) (l₀ ++ S .made)) (sym (hold-view W b))
-          (hold-real set w i (viewNow W) W (l₀ ++ S .made) X b (typed a)
+      invariant = λ a.
+          let X = S .invariant a in
+          subst (λ (r : ℕ). Invariant set w i r (hold W b) (l₀ ++ S .made)) (sym (hold-view W b))
+          (hold-invariant set w i (viewNow W) W (l₀ ++ S .made) X b (typed a)
           (λ e. let k = ready a e in (omega (arith, count-is W (X .regular), k .0), k .1, k .2, k .3)));
     }
 
@@ -157,20 +157,20 @@ module _ (set : Settings) (w : World) (H : HighVoted (R set w)) (i : ℕ) (l₀ 
     -- the certificate is adopted, store and tip are as they were, and the replica is in view v
     pub record Ready (W₁ : Work) : Type 0 where
       pub sound : Snd W₁
-      pub shown : Seen set w i l₀ sound → Seen set w i l₀ S
-      pub blocks-same : Seen set w i l₀ sound → blocks W₁ ≡ blocks W
+      pub recorded : Recorded set w i l₀ sound → Recorded set w i l₀ S
+      pub blocks-same : Recorded set w i l₀ sound → blocks W₁ ≡ blocks W
       pub tip-same : tip W₁ ≡ tip W
-      pub over : Seen set w i l₀ sound → c ⊑ traced (W₁ .counters) .top
+      pub over : Recorded set w i l₀ sound → c ⊑ traced (W₁ .counters) .top
       pub view-is : viewNow W₁ ≡ v
 
     abbrev pub W₁ : Work
     W₁ = cond (eqb v (viewNow W)) (adopt W (safeIn W (certificateOf r))) (progress r W)
 
-    adopted-here : v ≡ viewNow W → (Seen set w i l₀ S → TakenAt set w u r) → (Seen set w i l₀ S → u < viewNow W) → Ready (adopt W (safeIn W (certificateOf r)))
+    adopted-here : v ≡ viewNow W → (Recorded set w i l₀ S → TakenAt set w u r) → (Recorded set w i l₀ S → u < viewNow W) → Ready (adopt W (safeIn W (certificateOf r)))
     unfolding adopt adopting withLocks
     adopted-here q F below = record {
-      sound = record { made = S .made; out-is = S .out-is; framed = S .framed; real = λ a. adopted-real set w i l₀ r W S u F (viewNow W) (omega arith) (below a) (S .real a .certified .roof-le) a };
-      shown = λ a. a;
+      sound = record { made = S .made; out-is = S .out-is; framed = S .framed; invariant = λ a. adopted-invariant set w i l₀ r W S u F (viewNow W) (omega arith) (below a) (S .invariant a .certified .limit-le) a };
+      recorded = λ a. a;
       blocks-same = λ a. refl;
       tip-same = refl;
       over = over-safe set w i l₀ r W S u F;
@@ -178,23 +178,23 @@ module _ (set : Settings) (w : World) (H : HighVoted (R set w)) (i : ℕ) (l₀ 
     }
 
     -- in the current view it is only adopted
-    pub ready-now : v ≡ viewNow W → (Seen set w i l₀ S → TakenAt set w u r) → (Seen set w i l₀ S → u < viewNow W) → Ready W₁
+    pub ready-now : v ≡ viewNow W → (Recorded set w i l₀ S → TakenAt set w u r) → (Recorded set w i l₀ S → u < viewNow W) → Ready W₁
     ready-now q F below = by-cases Ready (eqb v (viewNow W)) _ _ (λ e. adopted-here q F below) (λ e. absurd (eqb-false v (viewNow W) e q))
 
-    pub ready-any : (Seen set w i l₀ S → TakenAt set w u r) → Framed r → CertificateFits (certificateOf r) → suc u ≡ v → viewNow W ≤ v → Ready W₁
+    pub ready-any : (Recorded set w i l₀ S → TakenAt set w u r) → Framed r → CertificateFits (certificateOf r) → suc u ≡ v → viewNow W ≤ v → Ready W₁
     ready-any F whole fit next le = by-cases Ready (eqb v (viewNow W)) _ _
         (λ e. let q = eqb-true v (viewNow W) e in adopted-here q F (λ a. omega (arith, q, next)))
         (λ e. let q = eqb-false v (viewNow W) e in
-        let G = progress-went set w i l₀ r W S F whole fit in
+        let G = progressed set w i l₀ r W S F whole fit in
         let lt : viewNow W ≤ u = ⊎-elim (λ h. omega (arith, h, next)) (⊎-elim (λ h. absurd (q (sym h))) (λ h. absurd (omega (arith, h, le)))) (which (viewNow W) v) in
-        record { sound = G .sound; shown = G .shown; blocks-same = G .blocks-same; tip-same = G .tip-same; over = G .over; view-is = G .views lt ∙ next })
+        record { sound = G .sound; recorded = G .recorded; blocks-same = G .blocks-same; tip-same = G .tip-same; over = G .over; view-is = G .views lt ∙ next })
 
   -- then the block is held, and voted for if that may be
-  module _ (W : Work) (S : Snd W) (v : ℕ) (b : Block) (r : List ℕ) (ready : Ready W S v r (W₁ W S v r)) (F : Seen set w i l₀ S → TakenAt set w (viewOfProgress (certificateOf r)) r)
-      (next : Seen set w i l₀ S → suc (viewOfProgress (certificateOf r)) ≡ v) (small : v < lastView) (typed : Seen set w i l₀ S → BlockTyped b) (long : length (b .name) ≡ nameLength) (named : b .name ≡ zeroName → ⊥)
-      (placed : Seen set w i l₀ S → w .Placed (placementOf b)) (on : Seen set w i l₀ S → b .parent ≡ safeCertificate set (certificateOf r) .name)
-      (room : heldBlock W (b .name) .is ≡ false → Seen set w i l₀ S → length (blocks W) < storeLength)
-      (place : Seen set w i l₀ S → ParentHeld set w (tip W) (blocks W) b × (b .height .0 ≤ lastHeight)) where
+  module _ (W : Work) (S : Snd W) (v : ℕ) (b : Block) (r : List ℕ) (ready : Ready W S v r (W₁ W S v r)) (F : Recorded set w i l₀ S → TakenAt set w (viewOfProgress (certificateOf r)) r)
+      (next : Recorded set w i l₀ S → suc (viewOfProgress (certificateOf r)) ≡ v) (small : v < lastView) (typed : Recorded set w i l₀ S → BlockTyped b) (long : length (b .name) ≡ nameLength) (named : b .name ≡ zeroName → ⊥)
+      (placed : Recorded set w i l₀ S → w .Placed (placementOf b)) (on : Recorded set w i l₀ S → b .parent ≡ safeCertificate set (certificateOf r) .name)
+      (room : heldBlock W (b .name) .is ≡ false → Recorded set w i l₀ S → length (blocks W) < storeLength)
+      (place : Recorded set w i l₀ S → ParentHeld set w (tip W) (blocks W) b × (b .height .0 ≤ lastHeight)) where
     abbrev X₁ : Work
     X₁ = W₁ W S v r
 
@@ -204,10 +204,10 @@ module _ (set : Settings) (w : World) (H : HighVoted (R set w)) (i : ℕ) (l₀ 
     abbrev S₁ : Snd X₁
     S₁ = ready .sound
 
-    back : Seen set w i l₀ S₁ → Seen set w i l₀ S
-    back = ready .shown
+    back : Recorded set w i l₀ S₁ → Recorded set w i l₀ S
+    back = ready .recorded
 
-    held-same : Seen set w i l₀ S₁ → (x : Name) → heldBlock X₁ x ≡ heldBlock W x
+    held-same : Recorded set w i l₀ S₁ → (x : Name) → heldBlock X₁ x ≡ heldBlock W x
     held-same a x = rw (ready .tip-same, ready .blocks-same a)
 
     abbrev W₂ : Work
@@ -225,24 +225,24 @@ module _ (set : Settings) (w : World) (H : HighVoted (R set w)) (i : ℕ) (l₀ 
     view₂ = hold-view X₁ b ∙ ready .view-is
 
     -- the certificate ranks no higher than what is adopted
-    back₂ : Seen set w i l₀ S₂ → Seen set w i l₀ S₁
+    back₂ : Recorded set w i l₀ S₂ → Recorded set w i l₀ S₁
     unfolding S₂ hold-sound
     back₂ a = a
 
-    over₂ : Seen set w i l₀ S₂ → k ⊑ traced (W₂ .counters) .top
+    over₂ : Recorded set w i l₀ S₂ → k ⊑ traced (W₂ .counters) .top
     over₂ a = subst (λ (d : Counters). k ⊑ traced d .top) (sym (hold-counters X₁ b)) (ready .over (back₂ a))
 
-    ground : Seen set w i l₀ S₂ → VoteGround set w v (b .name) k
+    ground : Recorded set w i l₀ S₂ → VoteGround set w v (b .name) k
     ground a = let z = back (back₂ a) in (viewOfProgress (certificateOf r), sym (next z), F z .backed, (placementOf b, placed z, refl, on z))
 
     abbrev q : List ℕ
     q = voteRecord W₂ v (b .name)
 
-    did : (a : Seen set w i l₀ S₂) → Shown w i q → w .Voted i v (b .name)
+    did : (a : Recorded set w i l₀ S₂) → RecordIn w i q → w .Voted i v (b .name)
     unfolding encode Fits
     did a z =
-        let r = S₂ .real a .regular in
-        shown-as w i (vote (own W₂) v (b .name)) (omega (arith, r .member, r .few), omega (arith, small), typed (back (back₂ a)) .name) z
+        let r = S₂ .invariant a .regular in
+        record-of w i (vote (own W₂) v (b .name)) (omega (arith, r .member, r .few), omega (arith, small), typed (back (back₂ a)) .name) z
 
     vote-out : sendVote v (b .name) W₂ .out ≡ W₂ .out ++ q
     unfolding sendVote keepVote
@@ -257,12 +257,12 @@ module _ (set : Settings) (w : World) (H : HighVoted (R set w)) (i : ℕ) (l₀ 
       made = S₂ .made ++ (q ∷ []);
       framed = framed-more (S₂ .made) q (S₂ .framed) (vote-framed 1 (own W₂) v (b .name) long);
       out-is = vote-out ∙ ap (λ (o : List ℕ). o ++ q) (S₂ .out-is) ∙ sym (joined-more (S₂ .made) q);
-      real = λ a.
-          let y = all-left (Shown w i) (S₂ .made) (q ∷ []) a in
-          let z = all-head (Shown w i) q [] (all-right (Shown w i) (S₂ .made) (q ∷ []) a) in
-          grown set w i l₀ (λ m. Real set w i (viewNow (sendVote v (b .name) W₂)) (sendVote v (b .name) W₂) m) (S₂ .made) q
-          (subst (λ (k : ℕ). Real set w i k (sendVote v (b .name) W₂) ((l₀ ++ S₂ .made) ++ (q ∷ []))) (sym vote-view)
-          (voted-real set w i (viewNow W₂) W₂ (l₀ ++ S₂ .made) (S₂ .real y) v (b .name) small (typed (back (back₂ y)) .name) named k late first (omega (arith, view₂))
+      invariant = λ a.
+          let y = all-left (RecordIn w i) (S₂ .made) (q ∷ []) a in
+          let z = all-head (RecordIn w i) q [] (all-right (RecordIn w i) (S₂ .made) (q ∷ []) a) in
+          grown set w i l₀ (λ m. Invariant set w i (viewNow (sendVote v (b .name) W₂)) (sendVote v (b .name) W₂) m) (S₂ .made) q
+          (subst (λ (k : ℕ). Invariant set w i k (sendVote v (b .name) W₂) ((l₀ ++ S₂ .made) ++ (q ∷ []))) (sym vote-view)
+          (voted-invariant set w i (viewNow W₂) W₂ (l₀ ++ S₂ .made) (S₂ .invariant y) v (b .name) small (typed (back (back₂ y)) .name) named k late first (omega (arith, view₂))
           (record { first = omega (arith, view₂, first); last = omega (arith, view₂) }) (over₂ y) (ground y) (did y z)));
     }
 

@@ -1,4 +1,4 @@
--- Each action of a replica keeps the invariant `Real`: keeping what others sent, adopting, entering, the acts (vote, commit, timeout), holding a block, releasing.
+-- Each action of a replica keeps the invariant: keeping what others sent, adopting, entering, the acts (vote, commit, timeout), holding a block, releasing.
 -- Assumes nothing.
 use Prim.Native.Nat.{ℕ, suc, _+_, _-_, _^_, _≤_, _<_}
 use mathlib.Core.Bool.{Bool, true, false}
@@ -48,7 +48,7 @@ use Rattle.protocol.specs.OneChain.{reads}
 use Rattle.protocol.proofs.call.Typing.{all-append}
 use Rattle.protocol.proofs.call.Regular.{Regular, keep-regular, send-regular, adopt-regular, enter-regular}
 use Rattle.protocol.proofs.chain.Tables.{keep-holds, other-holds, entry-holds, entered-holds}
-use Rattle.protocol.proofs.chain.Invariant.{Name, World, size, Sent, traced, rowIn, Standing, Entry, Certified, VoteKept, CommitKept, TimeoutKept, Tables, Chained, Real}
+use Rattle.protocol.proofs.chain.Invariant.{Name, History, size, Sent, traced, rowIn, GoodBelow, Entry, Certified, VoteKept, CommitKept, TimeoutKept, Tables, Chained, Invariant}
 use Rattle.protocol.proofs.chain.Records.{certificate-form, certificate-bytes, form-short}
 
 -- ---- the row of releases in a list of records
@@ -121,11 +121,11 @@ entry-short W r =
     let c = length-drop entryPlace (W .memory) in
     omega (arith, a, b, c, r .memory-long)
 
-module _ (set : Settings) (w : World) (i : ℕ) where
+module _ (set : Settings) (w : History) (i : ℕ) where
   -- ---- the memory changes, its header stays
-  remember : (roof : ℕ) (W : Work) (l : List (List ℕ)) (m : List ℕ) → Regular (withMemory W m) → SameHeader (W .memory) m → Tables set w (viewNow W) m
-      → Real set w i roof W l → Real set w i roof (withMemory W m) l
-  remember roof W l m reg same tab X = record {
+  with-memory : (limit : ℕ) (W : Work) (l : List (List ℕ)) (m : List ℕ) → Regular (withMemory W m) → SameHeader (W .memory) m → Tables set w (viewNow W) m
+      → Invariant set w i limit W l → Invariant set w i limit (withMemory W m) l
+  with-memory limit W l m reg same tab X = record {
     regular = reg;
     set-is = same .settings ∙ X .set-is;
     mine = same .own ∙ X .mine;
@@ -137,13 +137,13 @@ module _ (set : Settings) (w : World) (i : ℕ) where
   }
 
   -- n, as the memory says it
-  pub size-is : (roof : ℕ) (W : Work) (l : List (List ℕ)) → Real set w i roof W l → n W ≡ size set w
-  size-is roof W l X = ap (λ (s : Settings). replicas s) (X .set-is)
+  pub size-is : (limit : ℕ) (W : Work) (l : List (List ℕ)) → Invariant set w i limit W l → n W ≡ size set w
+  size-is limit W l X = ap (λ (s : Settings). replicas s) (X .set-is)
 
-  pub few : (roof : ℕ) (W : Work) (l : List (List ℕ)) → Real set w i roof W l → size set w ≤ largest
-  few roof W l X = omega (arith, size-is roof W l X, X .regular .few)
+  pub few : (limit : ℕ) (W : Work) (l : List (List ℕ)) → Invariant set w i limit W l → size set w ≤ largest
+  few limit W l X = omega (arith, size-is limit W l X, X .regular .few)
 
-  module _ (roof : ℕ) (W : Work) (l : List (List ℕ)) (v j : ℕ) (e : List ℕ) (b : IsBytes e) (low : j < size set w) (X : Real set w i roof W l) where
+  module _ (limit : ℕ) (W : Work) (l : List (List ℕ)) (v j : ℕ) (e : List ℕ) (b : IsBytes e) (low : j < size set w) (X : Invariant set w i limit W l) where
     abbrev m : List ℕ
     m = W .memory
 
@@ -153,16 +153,16 @@ module _ (set : Settings) (w : World) (i : ℕ) where
     abbrev bytes : IsBytes m
     bytes = X .regular .typed .memory
 
-    keeping : (t : Table) → length e ≡ widthOf t → Tables set w (viewNow W) (keep m (rowOf t v) (widthOf t) j e) → Real set w i roof (withMemory W (keep m (rowOf t v) (widthOf t) j e)) l
+    keeping : (t : Table) → length e ≡ widthOf t → Tables set w (viewNow W) (keep m (rowOf t v) (widthOf t) j e) → Invariant set w i limit (withMemory W (keep m (rowOf t v) (widthOf t) j e)) l
     keeping t s tab =
-        let h = few roof W l X in
-        remember roof W l (keep m (rowOf t v) (widthOf t) j e) (keep-regular W t v j e (omega arith) s b (X .regular) .0)
+        let h = few limit W l X in
+        with-memory limit W l (keep m (rowOf t v) (widthOf t) j e) (keep-regular W t v j e (omega arith) s b (X .regular) .0)
         (same-header m (keep m (rowOf t v) (widthOf t) j e) (keep-head m t v j e s (omega arith))) tab X
 
-    pub vote-real : length e ≡ nameLength → Windowed votes (viewNow W) v → VoteKept set w v j e → Real set w i roof (keepVote W v j e) l
+    pub vote-invariant : length e ≡ nameLength → Windowed votes (viewNow W) v → VoteKept set w v j e → Invariant set w i limit (keepVote W v j e) l
     unfolding keepVote
-    vote-real s in-window p =
-        let h = few roof W l X in
+    vote-invariant s in-window p =
+        let h = few limit W l X in
         let T = X .tables in
         keeping votes s (record {
           votes-true = keep-holds (size set w) h (VoteKept set w) (viewNow W) m bytes long votes v j e s (omega arith) in-window p (T .votes-true);
@@ -170,10 +170,10 @@ module _ (set : Settings) (w : World) (i : ℕ) where
           timeouts-fine = other-holds (size set w) h (TimeoutKept set w) (viewNow W) m bytes long votes v j e s (omega arith) timeouts (λ q. omega arith) (T .timeouts-fine);
         })
 
-    pub commit-real : length e ≡ nameLength → Windowed commits (viewNow W) v → CommitKept set w v j e → Real set w i roof (keepCommit W v j e) l
+    pub commit-invariant : length e ≡ nameLength → Windowed commits (viewNow W) v → CommitKept set w v j e → Invariant set w i limit (keepCommit W v j e) l
     unfolding keepCommit
-    commit-real s in-window p =
-        let h = few roof W l X in
+    commit-invariant s in-window p =
+        let h = few limit W l X in
         let T = X .tables in
         keeping commits s (record {
           votes-true = other-holds (size set w) h (VoteKept set w) (viewNow W) m bytes long commits v j e s (omega arith) votes (λ q. omega arith) (T .votes-true);
@@ -181,10 +181,10 @@ module _ (set : Settings) (w : World) (i : ℕ) where
           timeouts-fine = other-holds (size set w) h (TimeoutKept set w) (viewNow W) m bytes long commits v j e s (omega arith) timeouts (λ q. omega arith) (T .timeouts-fine);
         })
 
-    pub timeout-real : length e ≡ timeoutLength → Windowed timeouts (viewNow W) v → TimeoutKept set w v j e → Real set w i roof (keepTimeout W v j e) l
+    pub timeout-invariant : length e ≡ timeoutLength → Windowed timeouts (viewNow W) v → TimeoutKept set w v j e → Invariant set w i limit (keepTimeout W v j e) l
     unfolding keepTimeout
-    timeout-real s in-window p =
-        let h = few roof W l X in
+    timeout-invariant s in-window p =
+        let h = few limit W l X in
         let T = X .tables in
         keeping timeouts s (record {
           votes-true = other-holds (size set w) h (VoteKept set w) (viewNow W) m bytes long timeouts v j e s (omega arith) votes (λ q. omega arith) (T .votes-true);
@@ -206,9 +206,9 @@ module _ (set : Settings) (w : World) (i : ℕ) where
     tip-apart = C .tip-apart;
   }
 
-  pub sent-real : (roof : ℕ) (W : Work) (l : List (List ℕ)) (r : List ℕ) → Sent (size set w) r → reads r ≡ is-other → Real set w i roof W l
-      → Real set w i roof (send W r) (l ++ (r ∷ []))
-  sent-real roof W l r s e X = record {
+  pub sent-invariant : (limit : ℕ) (W : Work) (l : List (List ℕ)) (r : List ℕ) → Sent (size set w) r → reads r ≡ is-other → Invariant set w i limit W l
+      → Invariant set w i limit (send W r) (l ++ (r ∷ []))
+  sent-invariant limit W l r s e X = record {
     regular = send-regular W r (X .regular);
     set-is = X .set-is;
     mine = X .mine;
@@ -219,9 +219,9 @@ module _ (set : Settings) (w : World) (i : ℕ) where
     chained = chained-same l (l ++ (r ∷ [])) (tip W) (blocks W) (row-same l r is-other e refl) (X .chained);
   }
 
-  -- ---- a higher roof
-  pub raised : (roof roof′ : ℕ) (W : Work) (l : List (List ℕ)) → roof ≤ roof′ → roof′ ≤ lastView → Real set w i roof W l → Real set w i roof′ W l
-  raised roof roof′ W l h m X = record {
+  -- ---- a higher limit
+  pub raised : (limit limit′ : ℕ) (W : Work) (l : List (List ℕ)) → limit ≤ limit′ → limit′ ≤ lastView → Invariant set w i limit W l → Invariant set w i limit′ W l
+  raised limit limit′ W l h m X = record {
     regular = X .regular;
     set-is = X .set-is;
     mine = X .mine;
@@ -229,7 +229,7 @@ module _ (set : Settings) (w : World) (i : ℕ) where
     acted = X .acted;
     certified = record {
       view-le = omega (arith, X .certified .view-le);
-      roof-le = m;
+      limit-le = m;
       high-le = omega (arith, X .certified .high-le);
       high-named = X .certified .high-named;
       high-viewed = X .certified .high-viewed;
@@ -243,7 +243,7 @@ module _ (set : Settings) (w : World) (i : ℕ) where
     chained = X .chained;
   }
     where
-      higher : {k : Certificate} → Standing set w roof k → Standing set w roof′ k
+      higher : {k : Certificate} → GoodBelow set w limit k → GoodBelow set w limit′ k
       higher s = record { good = s .good; below = omega (arith, s .below); signers = s .signers }
 
   -- entering a view is no act
@@ -260,25 +260,25 @@ module _ (set : Settings) (w : World) (i : ℕ) where
   unfolding adopting withLocks
   adopt-quietly c k = record { high-view-is = refl; high-name-is = refl; timed-is = refl; top-up = rw (locks-back c k) (highest-adopted admissible k (locksOf c)) }
 
-  module _ (roof j : ℕ) (r : List ℕ) (k : Certificate) (s : Standing set w roof k) (c : Counters) (C : Certified set w roof j c r) where
-    adopt-stands : (b : Bool) → Standing set w roof (kept b (adopted k (locksOf c)))
+  module _ (limit j : ℕ) (r : List ℕ) (k : Certificate) (s : GoodBelow set w limit k) (c : Counters) (C : Certified set w limit j c r) where
+    adopt-good : (b : Bool) → GoodBelow set w limit (kept b (adopted k (locksOf c)))
     unfolding locksOf
-    adopt-stands true = adopted-has (Standing set w roof) true k (locksOf c) (C .lock) (λ e. s)
-    adopt-stands false = adopted-has (Standing set w roof) false k (locksOf c) (C .weak) (λ e. s)
+    adopt-good true = adopted-has (GoodBelow set w limit) true k (locksOf c) (C .lock) (λ e. s)
+    adopt-good false = adopted-has (GoodBelow set w limit) false k (locksOf c) (C .weak) (λ e. s)
 
-    adopt-lock : Standing set w roof (certificateOf true (adopting c k .lock))
+    adopt-lock : GoodBelow set w limit (certificateOf true (adopting c k .lock))
     unfolding locksOf
-    adopt-lock = subst (Standing set w roof) (sym (ap (λ (a : Locks). a .lock) (locks-back c k))) (adopt-stands true)
+    adopt-lock = subst (GoodBelow set w limit) (sym (ap (λ (a : Locks). a .lock) (locks-back c k))) (adopt-good true)
 
-    adopt-weak : Standing set w roof (certificateOf false (adopting c k .weak))
+    adopt-weak : GoodBelow set w limit (certificateOf false (adopting c k .weak))
     unfolding locksOf
-    adopt-weak = subst (Standing set w roof) (sym (ap (λ (a : Locks). a .weak) (locks-back c k))) (adopt-stands false)
+    adopt-weak = subst (GoodBelow set w limit) (sym (ap (λ (a : Locks). a .weak) (locks-back c k))) (adopt-good false)
 
-    adopt-certified : Certified set w roof j (adopting c k) r
+    adopt-certified : Certified set w limit j (adopting c k) r
     unfolding adopting withLocks
     adopt-certified = record {
       view-le = C .view-le;
-      roof-le = C .roof-le;
+      limit-le = C .limit-le;
       high-le = C .high-le;
       high-named = C .high-named;
       high-viewed = C .high-viewed;
@@ -302,9 +302,9 @@ module _ (set : Settings) (w : World) (i : ℕ) where
   unfolding adopt adopting withLocks
   adopt-tip W k = refl
 
-  pub adopt-real : (roof : ℕ) (W : Work) (l : List (List ℕ)) (k : Certificate) → Standing set w roof k → CertificateTyped k → Real set w i roof W l → Real set w i roof (adopt W k) l
+  pub adopt-invariant : (limit : ℕ) (W : Work) (l : List (List ℕ)) (k : Certificate) → GoodBelow set w limit k → CertificateTyped k → Invariant set w i limit W l → Invariant set w i limit (adopt W k) l
   unfolding adopt adopting withLocks
-  adopt-real roof W l k s t X = record {
+  adopt-invariant limit W l k s t X = record {
     regular = adopt-regular W k t (X .regular);
     set-is = X .set-is;
     mine = X .mine;
@@ -316,21 +316,21 @@ module _ (set : Settings) (w : World) (i : ℕ) where
       vote-on = X .acted .vote-on;
       commit-on = X .acted .commit-on;
     };
-    certified = adopt-certified roof (own W) (entryOf (W .memory)) k s (W .counters) (X .certified);
+    certified = adopt-certified limit (own W) (entryOf (W .memory)) k s (W .counters) (X .certified);
     tables = X .tables;
     chained = X .chained;
   }
 
   -- ---- entering view u + 1 by a certificate of view u
-  pub entered-real : (u : ℕ) (W : Work) (l : List (List ℕ)) (r : List ℕ) → Entry set w (own W) u r → Real set w i (suc u) W l → Real set w i (suc u) (enterBy W (suc u) r) l
+  pub entered-invariant : (u : ℕ) (W : Work) (l : List (List ℕ)) (r : List ℕ) → Entry set w (own W) u r → Invariant set w i (suc u) W l → Invariant set w i (suc u) (enterBy W (suc u) r) l
   unfolding enterBy entering
-  entered-real u W l r E X =
+  entered-invariant u W l r E X =
       let own-low : own W < 2 ^ 16 = omega (arith, X .regular .member, X .regular .few) in
       let bytes : IsBytes r = subst IsBytes (sym (E .is)) (certificate-bytes (own W) (E .says) own-low (E .fits)) in
       let form = subst (λ (s : List ℕ). Rattle.protocol.proofs.call.Regular.EntryForm (n W) s) (sym (E .is))
       (certificate-form (n W) (own W) (E .says) own-low (E .fits) (rw (size-is (suc u) W l X) (E .proper))) in
       let short : length r ≤ entryRoom = form-short (n W) r (X .regular .few) form in
-      let reg = enter-regular W (suc u) r (omega arith) (X .certified .roof-le) bytes form (X .regular) in
+      let reg = enter-regular W (suc u) r (omega arith) (X .certified .limit-le) bytes form (X .regular) in
       let m = W .memory in
       let m₁ = entered m (viewNow W) (suc u) in
       let long : memoryLength ≤ length m₁ = omega (arith, X .regular .memory-long, length-entered m (viewNow W) (suc u)) in
@@ -347,7 +347,7 @@ module _ (set : Settings) (w : World) (i : ℕ) where
         acted = record { acts = X .acted .acts; matches = X .acted .matches; trace = quiet (X .acted .trace) (enter-quietly (W .counters) (view (suc u))); vote-on = X .acted .vote-on; commit-on = X .acted .commit-on };
         certified = rw (reg .1 .own, entry-put m₁ r short long) (record {
           view-le = omega arith;
-          roof-le = C .roof-le;
+          limit-le = C .limit-le;
           high-le = C .high-le;
           high-named = C .high-named;
           high-viewed = C .high-viewed;

@@ -1,4 +1,4 @@
--- The acts of a replica keep the invariant `Real`: commit, vote and timeout are sent, kept and are acts of its trace. Assumes nothing.
+-- The acts of a replica keep the invariant: commit, vote and timeout are sent, kept and are acts of its trace. Assumes nothing.
 use Prim.Native.Nat.{ℕ, _+_, _^_, _≤_, _<_}
 use mathlib.Core.Bool.{Bool, true, false, cond}
 use mathlib.Core.List.{List, [], _∷_, _++_}
@@ -40,20 +40,20 @@ use Rattle.protocol.specs.OneChain.{reads}
 use Rattle.protocol.proofs.call.Typing.{all-append}
 use Rattle.protocol.proofs.call.Regular.{counters-regular, send-regular}
 use Rattle.protocol.proofs.call.Actions.{own-high, own-carries, own-timeout-fits}
-use Rattle.protocol.proofs.chain.Invariant.{Name, World, R, size, Sent, traced, VoteGround, Standing, Real}
+use Rattle.protocol.proofs.chain.Invariant.{Name, History, R, size, Sent, traced, VoteGround, GoodBelow, Invariant}
 use Rattle.protocol.proofs.chain.Records.{reads-encode}
-use Rattle.protocol.proofs.chain.Actions.{row-same, all-one, size-is, few, chained-same, vote-real, commit-real, timeout-real}
+use Rattle.protocol.proofs.chain.Actions.{row-same, all-one, size-is, few, chained-same, vote-invariant, commit-invariant, timeout-invariant}
 
 kind-proper : (b : Bool) → (_≡_ {A = ℕ} (cond b 3 4) 3) ⊎ (_≡_ {A = ℕ} (cond b 3 4) 4)
 kind-proper true = inl refl
 kind-proper false = inr refl
 
-module _ (set : Settings) (w : World) (i roof : ℕ) (W : Work) (l : List (List ℕ)) (X : Real set w i roof W l) where
+module _ (set : Settings) (w : History) (i limit : ℕ) (W : Work) (l : List (List ℕ)) (X : Invariant set w i limit W l) where
   own-low : own W < 2 ^ 16
   own-low = omega (arith, X .regular .member, X .regular .few)
 
   own-size : own W < size set w
-  own-size = omega (arith, X .regular .member, size-is set w i roof W l X)
+  own-size = omega (arith, X .regular .member, size-is set w i limit W l X)
 
   -- ---- a commit
   module _ (v : ℕ) (x : Name) (small : v < lastView) (name : IsName x) where
@@ -76,12 +76,12 @@ module _ (set : Settings) (w : World) (i roof : ℕ) (W : Work) (l : List (List 
         go true e = inr (same-eq x zeroName e, h)
         go false e = inl (same-ne x zeroName e)
 
-    pub committed-real : timed W < v → Windowed commits (viewNow W) v → blockOf v x ⊑ traced (W .counters) .top → Signed (R set w) (blockOf v x) → w .Committed i v x
-        → Real set w i roof (sendCommit v x W) (l ++ (commitRecord W v x ∷ []))
+    pub committed-invariant : timed W < v → Windowed commits (viewNow W) v → blockOf v x ⊑ traced (W .counters) .top → Signed (R set w) (blockOf v x) → w .Committed i v x
+        → Invariant set w i limit (sendCommit v x W) (l ++ (commitRecord W v x ∷ []))
     unfolding sendCommit
-    committed-real late in-window over signed did =
+    committed-invariant late in-window over signed did =
         let r = commitRecord W v x in
-        commit-real set w i roof (send W r) (l ++ (r ∷ [])) v (own W) x (name .bytes) own-size (record {
+        commit-invariant set w i limit (send W r) (l ++ (r ∷ [])) v (own W) x (name .bytes) own-size (record {
           regular = send-regular W r (X .regular);
           set-is = X .set-is;
           mine = X .mine;
@@ -116,17 +116,17 @@ module _ (set : Settings) (w : World) (i roof : ℕ) (W : Work) (l : List (List 
     unfolding encode Proper
     vote-sent = record { says = vote (own W) v x; is = refl; fits = vote-fits; passes = named }
 
-    pub voted-real : (c : Cert Name) → timed W < v → highView W < v → v ≤ roof → Windowed votes (viewNow W) v → c ⊑ traced (W .counters) .top → VoteGround set w v x c → w .Voted i v x
-        → Real set w i roof (sendVote v x W) (l ++ (voteRecord W v x ∷ []))
+    pub voted-invariant : (c : Cert Name) → timed W < v → highView W < v → v ≤ limit → Windowed votes (viewNow W) v → c ⊑ traced (W .counters) .top → VoteGround set w v x c → w .Voted i v x
+        → Invariant set w i limit (sendVote v x W) (l ++ (voteRecord W v x ∷ []))
     unfolding sendVote voting locksOf
-    voted-real c late first le in-window over ground did =
+    voted-invariant c late first le in-window over ground did =
         let r = voteRecord W v x in
         let h : Vote = record { view = view v; name = x } in
         let C = X .certified in
         let W₁ = send (withCounters W (voting (W .counters) h)) r in
         let t = X .regular .typed .counters in
         let typed : CountersTyped (voting (W .counters) h) = record { view = t .view; timed = t .timed; high = record { view = omega (arith, small); name = name }; lock = t .lock; weak = t .weak; tip = t .tip } in
-        vote-real set w i roof W₁ (l ++ (r ∷ [])) v (own W) x (name .bytes) own-size (record {
+        vote-invariant set w i limit W₁ (l ++ (r ∷ [])) v (own W) x (name .bytes) own-size (record {
           regular = send-regular (withCounters W (voting (W .counters) h)) r
               (counters-regular W (voting (W .counters) h) typed (X .regular .view-first) (X .regular .view-last) (X .regular));
           set-is = X .set-is;
@@ -149,7 +149,7 @@ module _ (set : Settings) (w : World) (i roof : ℕ) (W : Work) (l : List (List 
           };
           certified = record {
             view-le = C .view-le;
-            roof-le = C .roof-le;
+            limit-le = C .limit-le;
             high-le = le;
             high-named = λ z. absurd (omega (arith, first, z));
             high-viewed = λ z. absurd (named z);
@@ -164,18 +164,18 @@ module _ (set : Settings) (w : World) (i roof : ℕ) (W : Work) (l : List (List 
         }) (name .size) in-window (record { below = small; truly = λ z. rw (X .mine) did })
 
   -- ---- a timeout
-  module _ (v : ℕ) (small : v < lastView) (le : roof ≤ v) where
+  module _ (v : ℕ) (small : v < lastView) (le : limit ≤ v) where
     abbrev t : Timeout
     t = ownTimeout W v
 
     abbrev k : Certificate
     k = highest (locksOf (W .counters))
 
-    highest-stands : Standing set w roof k
+    highest-good : GoodBelow set w limit k
     unfolding locksOf
-    highest-stands = highest-has (Standing set w roof) (locksOf (W .counters)) (λ b. both b)
+    highest-good = highest-has (GoodBelow set w limit) (locksOf (W .counters)) (λ b. both b)
       where
-        both : (b : Bool) → Standing set w roof (kept b (locksOf (W .counters)))
+        both : (b : Bool) → GoodBelow set w limit (kept b (locksOf (W .counters)))
         both true = X .certified .lock
         both false = X .certified .weak
 
@@ -188,7 +188,7 @@ module _ (set : Settings) (w : World) (i roof : ℕ) (W : Work) (l : List (List 
       kind = kind-proper (k .block);
       named = rw (own-high W v) (X .certified .high-named);
       viewed = rw (own-high W v) (X .certified .high-viewed);
-      signers = highest-stands .signers;
+      signers = highest-good .signers;
     }
 
     timeout-reads : reads (timeoutBytes t) ≡ is-timeout (Seen.content t)
@@ -204,8 +204,8 @@ module _ (set : Settings) (w : World) (i roof : ℕ) (W : Work) (l : List (List 
     timeout-fine did = record {
       of-view = refl;
       high-le = let e = ap (λ (h : Vote). h .view .0) (own-high W v) in omega (arith, X .certified .high-le, le, e);
-      carried-good = rw (own-carries W v) (highest-stands .good);
-      carried-le = let e = ap (λ (c : Certificate). c .view .0) (own-carries W v) in omega (arith, highest-stands .below, le, e);
+      carried-good = rw (own-carries W v) (highest-good .good);
+      carried-le = let e = ap (λ (c : Certificate). c .view .0) (own-carries W v) in omega (arith, highest-good .below, le, e);
       truly = λ b h. rw (X .mine) did;
     }
 
@@ -227,16 +227,16 @@ module _ (set : Settings) (w : World) (i roof : ℕ) (W : Work) (l : List (List 
       top-is = refl;
     }
 
-    pub timed-real : timed W < v → Windowed timeouts (viewNow W) v → w .TimedOut i (Seen.content t)
-        → Real set w i roof (sendTimeout v W) (l ++ (timeoutBytes t ∷ []))
+    pub timed-invariant : timed W < v → Windowed timeouts (viewNow W) v → w .TimedOut i (Seen.content t)
+        → Invariant set w i limit (sendTimeout v W) (l ++ (timeoutBytes t ∷ []))
     unfolding sendTimeout keepTimeout timing locksOf encode Fits
-    timed-real late in-window did =
+    timed-invariant late in-window did =
         let r = timeoutBytes t in
         let C = X .certified in
         let c = X .regular .typed .counters in
         let typed : CountersTyped (timing (W .counters) (view v)) = record { view = c .view; timed = omega (arith, small); high = c .high; lock = c .lock; weak = c .weak; tip = c .tip } in
         let W₁ = send (withCounters W (timing (W .counters) (view v))) r in
-        timeout-real set w i roof W₁ (l ++ (r ∷ [])) v (own W) r (bytes-encode (timeout t) timeout-fits) own-size (record {
+        timeout-invariant set w i limit W₁ (l ++ (r ∷ [])) v (own W) r (bytes-encode (timeout t) timeout-fits) own-size (record {
           regular = send-regular (withCounters W (timing (W .counters) (view v))) r
               (counters-regular W (timing (W .counters) (view v)) typed (X .regular .view-first) (X .regular .view-last) (X .regular));
           set-is = X .set-is;
@@ -251,7 +251,7 @@ module _ (set : Settings) (w : World) (i roof : ℕ) (W : Work) (l : List (List 
           };
           certified = record {
             view-le = C .view-le;
-            roof-le = C .roof-le;
+            limit-le = C .limit-le;
             high-le = C .high-le;
             high-named = C .high-named;
             high-viewed = C .high-viewed;

@@ -1,4 +1,4 @@
--- Holding a block and releasing one keep the invariant `Real`. Assumes nothing.
+-- Holding a block and releasing one keep the invariant. Assumes nothing.
 use Prim.Native.Nat.{ℕ, zero, suc, _+_, _≤_, _<_}
 use mathlib.Core.Bool.{Bool, true, false, cond}
 use mathlib.Core.List.{List, [], _∷_, _++_, map, append-nil}
@@ -37,7 +37,7 @@ use Rattle.protocol.proofs.call.Typing.{all-append}
 use Rattle.protocol.proofs.call.Regular.{Regular, hold-regular}
 use Rattle.protocol.proofs.call.Actions.{release-regular}
 use Rattle.protocol.proofs.chain.Tables.{count-holds}
-use Rattle.protocol.proofs.chain.Invariant.{Name, World, R, size, Sent, traced, rowIn, VoteKept, CommitKept, TimeoutKept, Tables, ParentHeld, Real, placementOf}
+use Rattle.protocol.proofs.chain.Invariant.{Name, History, R, size, Sent, traced, rowIn, VoteKept, CommitKept, TimeoutKept, Tables, ParentHeld, Invariant, placementOf}
 use Rattle.protocol.proofs.chain.Records.{reads-encode}
 use Rattle.protocol.proofs.chain.Actions.{row-cons, row-append, all-one, few}
 use Rattle.protocol.proofs.chain.Store.{held-chained, pairs, released-chained}
@@ -64,14 +64,14 @@ unfolding All
 row-typed W r [] a = tt
 row-typed W r (c ∷ row) a = (held-typed W r c (a .0), row-typed W r row (a .1))
 
-module _ (set : Settings) (w : World) (i roof : ℕ) (W : Work) (l : List (List ℕ)) (X : Real set w i roof W l) where
+module _ (set : Settings) (w : History) (i limit : ℕ) (W : Work) (l : List (List ℕ)) (X : Invariant set w i limit W l) where
   abbrev m : List ℕ
   m = W .memory
 
   -- another number of held blocks leaves the tables
   count-tables : (k : ℕ) → Tables set w (viewNow W) (withBlockCount m k)
   count-tables k =
-      let h = few set w i roof W l X in
+      let h = few set w i limit W l X in
       let T = X .tables in
       record {
         votes-true = count-holds (size set w) h (VoteKept set w) votes (viewNow W) m k (T .votes-true);
@@ -95,7 +95,7 @@ module _ (set : Settings) (w : World) (i roof : ℕ) (W : Work) (l : List (List 
         let e : blockCountOf (withBlockCount m (k + 1)) ≡ suc k = count-put m (k + 1) (omega arith) (omega (arith, X .regular .memory-long)) ∙ (let z : k + 1 ≡ suc k = omega arith in z) in
         rw e (take-suc-set (W .store) k b (omega (arith, X .regular .store-long)))
 
-    held-now : heldBlock W (b .name) .is ≡ false → Ready → Regular W₁ → Real set w i roof W₁ l
+    held-now : heldBlock W (b .name) .is ≡ false → Ready → Regular W₁ → Invariant set w i limit W₁ l
     held-now new h reg = record {
       regular = reg;
       set-is = count-settings m (k + 1) ∙ X .set-is;
@@ -107,11 +107,11 @@ module _ (set : Settings) (w : World) (i roof : ℕ) (W : Work) (l : List (List 
       chained = rw (new-blocks (h .0)) (held-chained set w l (tip W) (blocks W) (X .chained) b (h .1) (h .2) (h .3) new);
     }
 
-    pub hold-real : (heldBlock W (b .name) .is ≡ false → Ready) → Real set w i roof (hold W b) l
+    pub hold-invariant : (heldBlock W (b .name) .is ≡ false → Ready) → Invariant set w i limit (hold W b) l
     unfolding hold
-    hold-real ready = go (heldBlock W (b .name) .is) refl (hold-regular W b typed (λ e. ready e .0) (X .regular) .0)
+    hold-invariant ready = go (heldBlock W (b .name) .is) refl (hold-regular W b typed (λ e. ready e .0) (X .regular) .0)
       where
-        go : (t : Bool) → heldBlock W (b .name) .is ≡ t → Regular (cond t W W₁) → Real set w i roof (cond t W W₁) l
+        go : (t : Bool) → heldBlock W (b .name) .is ≡ t → Regular (cond t W W₁) → Invariant set w i limit (cond t W W₁) l
         go true e reg = X
         go false e reg = held-now e (ready e) reg
 
@@ -175,9 +175,9 @@ module _ (set : Settings) (w : World) (i roof : ℕ) (W : Work) (l : List (List 
           let e : blockCountOf (withBlockCount m k) ≡ k = count-put m k (omega (arith, X .regular .room)) (omega (arith, X .regular .memory-long)) in
           rw e (dropped-held b (blockCountOf m) (W .store))
 
-      pub release-real : Real set w i roof (release v b W) (l ++ written)
+      pub release-invariant : Invariant set w i limit (release v b W) (l ++ written)
       unfolding release releasing
-      release-real =
+      release-invariant =
           let k = length (kept b (blocks W)) in
           let reg = release-regular W v b (held-typed W (X .regular) b p) (X .regular) in
           let C = X .certified in
@@ -195,7 +195,7 @@ module _ (set : Settings) (w : World) (i roof : ℕ) (W : Work) (l : List (List 
             };
             certified = rw (count-own m k, count-entry m k) (record {
               view-le = C .view-le;
-              roof-le = C .roof-le;
+              limit-le = C .limit-le;
               high-le = C .high-le;
               high-named = C .high-named;
               high-viewed = C .high-viewed;

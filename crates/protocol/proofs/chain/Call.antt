@@ -26,7 +26,7 @@ use Rattle.protocol.specs.OneChain.{calls, stepSays, stepGives, cutRecor
 use Rattle.protocol.proofs.call.Regular.{Regular}
 use Rattle.protocol.proofs.call.Events.{record-done, timer-done, propose-done}
 use Rattle.protocol.proofs.call.OneCall.{quiet-append, coreOf}
-use Rattle.protocol.proofs.chain.Invariant.{World, R, Real}
+use Rattle.protocol.proofs.chain.Invariant.{History, R, Invariant}
 use Rattle.protocol.proofs.chain.Progress.{Sound}
 use Rattle.protocol.proofs.chain.Says.{Says}
 use Rattle.protocol.proofs.chain.Rules.{settle-sound}
@@ -59,10 +59,10 @@ cut-joined (r ∷ l) a (suc k) h =
     ∙ ap (λ (m : List (List ℕ)). r ∷ m) (cut-joined l (a .1) k (omega (arith, h, length-append r (joined l), a .0 .0)))
 
 -- ---- an accepted core
-module _ (set : Settings) (w : World) (H : HighVoted (R set w)) (i : ℕ) (l₀ : List (List ℕ)) (r : Replica) (K : Real set w i (viewNow (begin r)) (begin r) l₀) where
+module _ (set : Settings) (w : History) (H : HighVoted (R set w)) (i : ℕ) (l₀ : List (List ℕ)) (r : Replica) (K : Invariant set w i (viewNow (begin r)) (begin r) l₀) where
   begin-sound : Sound set w i l₀ (begin r)
   unfolding All joined
-  begin-sound = record { made = []; out-is = refl; framed = tt; real = λ a. rw append-nil K }
+  begin-sound = record { made = []; out-is = refl; framed = tt; invariant = λ a. rw append-nil K }
 
   typed-regular : Regular (begin r)
   typed-regular = K .regular

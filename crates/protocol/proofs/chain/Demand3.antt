@@ -1,5 +1,5 @@
--- DEMAND 3 IS PROVED: over any list of entries that meets the premises of specs/OneChain.antt, all releases lie along one chain. Two passes over the run: in a world
--- where every claim is true the replicas are traces; then the certificates and releases are backed by what the run made. Assumes nothing.
+-- DEMAND 3 IS PROVED: over any list of entries that meets the premises of specs/OneChain.antt, all releases lie along one chain. Two passes over the run: in the full
+-- history, where every claim is true, the replicas are traces; then the certificates and releases are backed by what the run made. Assumes nothing.
 use Prim.Native.Nat.{ℕ, _+_}
 use mathlib.Core.Bool.{Bool, true, false, cond}
 use mathlib.Core.List.{List, [], _∷_, _++_}
@@ -32,9 +32,9 @@ use Rattle.protocol.specs.Calls.{Replica, begin, recordCore, openingCall
 use Rattle.protocol.specs.OneCall.{Call, receive, timer, propose, CallTyped, callOn}
 use Rattle.protocol.specs.OneChain.{Placement, Step, calls, reopens, Entry, outcomeOf, accepted, makes, recordGives, recordsGive, stepGives, gives, StepTyped, replicaMachine, reads, readOf, Premises, OneChain, Demand3}
 use Rattle.protocol.proofs.call.OneCall.{quiet-append, coreOf, call-is}
-use Rattle.protocol.proofs.chain.Invariant.{Name, World, R, Passes, Sent}
-use Rattle.protocol.proofs.chain.Says.{ToldAs, Told}
-use Rattle.protocol.proofs.chain.Run.{Keeping, call-keeps, opened-keeping}
+use Rattle.protocol.proofs.chain.Invariant.{Name, History, R, Passes, Sent}
+use Rattle.protocol.proofs.chain.Says.{ActOf, ActIn}
+use Rattle.protocol.proofs.chain.Run.{ReplicaInvariant, call-keeps, opening-establishes}
 
 -- ---- names in the placements of a call: none is genesis
 -- in what a replica made
@@ -130,17 +130,17 @@ module _ (set : Settings) (honest : ℕ → Bool) (σ : ℕ → Replica) (run : 
   abbrev RunCluster : Cluster Name
   RunCluster = cluster replicaMachine set honest reads (λ b. b .name) (λ b. b .parent) σ run
 
-  -- the world of the run, and the world where every claim is true
-  abbrev real-world : World
-  real-world = record { honest = honest; Voted = RunCluster .Voted; Committed = RunCluster .Committed; TimedOut = RunCluster .TimedOut; Placed = λ b. In b B }
+  -- the history of the run, and the full one, where every claim is true
+  abbrev run-history : History
+  run-history = record { honest = honest; Voted = RunCluster .Voted; Committed = RunCluster .Committed; TimedOut = RunCluster .TimedOut; Placed = λ b. In b B }
 
-  abbrev pub free-world : World
-  free-world = record { honest = honest; Voted = λ i v x. Unit {0}; Committed = λ i v x. Unit {0}; TimedOut = λ i t. Unit {0}; Placed = λ b. Unit {0} }
+  abbrev pub full-history : History
+  full-history = record { honest = honest; Voted = λ i v x. Unit {0}; Committed = λ i v x. Unit {0}; TimedOut = λ i t. Unit {0}; Placed = λ b. Unit {0} }
 
-  told-real : (j : ℕ) (q : List ℕ) → In (j, q) F → Told real-world j q
-  told-real j q p = go (content q) refl
+  act-in-run : (j : ℕ) (q : List ℕ) → In (j, q) F → ActIn run-history j q
+  act-in-run j q p = go (content q) refl
     where
-      go : (c : Content) → content q ≡ c → ToldAs real-world j c
+      go : (c : Content) → content q ≡ c → ActOf run-history j c
       go (vote k v x) e = (q, in-own replicaMachine j q F p, ap readOf e)
       go (commit k v x) e = (q, in-own replicaMachine j q F p, ap readOf e)
       go (certificate k s) e = tt
@@ -149,10 +149,10 @@ module _ (set : Settings) (honest : ℕ → Bool) (σ : ℕ → Replica) (run : 
       go (block k x y h) e = tt
       go (release k v x h) e = tt
 
-  pub told-free : (j : ℕ) (q : List ℕ) → In (j, q) F → Told free-world j q
-  told-free j q p = go (content q)
+  pub act-in-full : (j : ℕ) (q : List ℕ) → In (j, q) F → ActIn full-history j q
+  act-in-full j q p = go (content q)
     where
-      go : (c : Content) → ToldAs free-world j c
+      go : (c : Content) → ActOf full-history j c
       go (vote k v x) = tt
       go (commit k v x) = tt
       go (certificate k s) = tt
@@ -161,11 +161,11 @@ module _ (set : Settings) (honest : ℕ → Bool) (σ : ℕ → Replica) (run : 
       go (block k x y h) = tt
       go (release k v x h) = tt
 
-  pub free-high : HighVoted (R set free-world)
-  free-high i b h t q m = tt
+  pub full-high : HighVoted (R set full-history)
+  full-high i b h t q m = tt
 
   module _ (P : Premises set honest σ run) where
-    at-end : (i : ℕ) (s : Replica) → Keeping set real-world i (made replicaMachine σ run i) s → AtEnd replicaMachine set honest reads (λ b. b .name) (λ b. b .parent) σ run zeroName i
+    at-end : (i : ℕ) (s : Replica) → ReplicaInvariant set run-history i (made replicaMachine σ run i) s → AtEnd replicaMachine set honest reads (λ b. b .name) (λ b. b .parent) σ run zeroName i
     unfolding traced
     at-end i s X =
         let C = X .chained in (
@@ -178,13 +178,13 @@ module _ (set : Settings) (honest : ℕ → Bool) (σ : ℕ → Replica) (run : 
     -- what a machine has to show
     pub keeps : Keeps replicaMachine set honest reads (λ b. b .name) (λ b. b .parent) σ run zeroName
     keeps = record {
-      Own = Keeping set free-world;
-      own-open = λ i t. opened-keeping set free-world i (σ i) (P .opened i t);
-      own-step = call-keeps set free-world free-high F B told-free (λ b q. tt);
+      Own = ReplicaInvariant set full-history;
+      own-open = λ i t. opening-establishes set full-history i (σ i) (P .opened i t);
+      own-step = call-keeps set full-history full-high F B act-in-full (λ b q. tt);
       own-end = λ i b h s X. traced replicaMachine set honest reads (λ b. b .name) (λ b. b .parent) σ run i (X .acted .acts) _ (X .acted .matches) (X .acted .trace);
-      Backed = Keeping set real-world;
-      backed-open = λ i t. opened-keeping set real-world i (σ i) (P .opened i t);
-      backed-step = λ H. call-keeps set real-world H F B told-real (λ b q. q);
+      Backed = ReplicaInvariant set run-history;
+      backed-open = λ i t. opening-establishes set run-history i (σ i) (P .opened i t);
+      backed-step = λ H. call-keeps set run-history H F B act-in-run (λ b q. q);
       backed-end = λ i b h s X. at-end i s X;
     }
 
@@ -228,7 +228,7 @@ module _ (set : Settings) (honest : ℕ → Bool) (σ : ℕ → Replica) (run : 
         vote-named (d .0) (in-all (Sent (replicas set)) (d .0) (own replicaMachine (w .at) F) (all-sent (w .at) (w .honest)) (d .1)) v (d .2)
 
     -- the invariant of an honest replica at the end of the run
-    at-end-of : (i : ℕ) → T (honest i) → Keeping set real-world i (made replicaMachine σ run i) (end replicaMachine σ run i)
+    at-end-of : (i : ℕ) → T (honest i) → ReplicaInvariant set run-history i (made replicaMachine σ run i) (end replicaMachine σ run i)
     unfolding keeps
     at-end-of i h =
         by-replica replicaMachine honest F B (keeps .Backed) (keeps .backed-step (honest-high replicaMachine set honest reads (λ b. b .name) (λ b. b .parent) σ run zeroName (P .earlier) (P .allowed) keeps))

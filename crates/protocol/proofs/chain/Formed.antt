@@ -44,7 +44,7 @@ use Rattle.safety.proofs.Signers.{ascend}
 use Rattle.protocol.specs.Work.{n}
 use Rattle.protocol.proofs.call.Certificates.{fits-typed}
 use Rattle.protocol.proofs.chain.Records.{proper-few}
-use Rattle.protocol.proofs.chain.Invariant.{Name, World, R, size, VoteKept, CommitKept, TimeoutKept}
+use Rattle.protocol.proofs.chain.Invariant.{Name, History, R, size, VoteKept, CommitKept, TimeoutKept}
 use Rattle.protocol.proofs.chain.Actions.{size-is}
 use Rattle.protocol.proofs.chain.Progress.{TakenAt}
 
@@ -71,7 +71,7 @@ unfolding TimeoutsProper All carriedCertificate
 carried-low n u low [] p = tt
 carried-low n u low (t ∷ l) p = (p .3 .signers, carried-low n u (suc (t .sender)) l (p .4))
 
-module _ (set : Settings) (w : World) (H : HighVoted (R set w)) where
+module _ (set : Settings) (w : History) (H : HighVoted (R set w)) where
   -- ---- a list of good timeouts, in order
   pub record Timeouts (u low : ℕ) (ts : List Timeout) : Type 0 where
     pub fits : All TimeoutFits ts

@@ -1,5 +1,5 @@
--- The invariant of one replica (`Real`): what is true of its state and of the records that it made, in a world that says what honest replicas did. In the
--- world of a run it is what demand 3 needs; in the world where every claim is true, it is what holds of a replica on any input. It stands
+-- The invariant of one replica (`Invariant`): what is true of its state and of the records that it made, where a history says what honest replicas did. In the
+-- history of a run it is what demand 3 needs; in the full history, where every claim is true, it is what holds of a replica on any input. It stands
 -- apart from the rules of refusal 2. Assumes nothing.
 use Prim.Native.Nat.{ℕ, suc, _^_, _≤_, _<_}
 use mathlib.Core.Bool.{Bool, true, false}
@@ -44,8 +44,8 @@ use Rattle.protocol.proofs.chain.Tables.{HoldsIn}
 abbrev pub Name : Type 0
 Name = List ℕ
 
--- what is claimed of the honest replicas, and of names
-pub record World : Type 1 where
+-- a history: what the honest replicas did, and which placements names have
+pub record History : Type 1 where
   pub honest : ℕ → Bool
   pub Voted : ℕ → ℕ → Name → Type 0
   pub Committed : ℕ → ℕ → Name → Type 0
@@ -57,7 +57,7 @@ pub record World : Type 1 where
 abbrev pub placementOf : Block → Placement
 placementOf b = record { name = b .name; parent = b .parent; height = b .height .0 }
 
-abbrev pub clusterOf : Settings → World → Cluster Name
+abbrev pub clusterOf : Settings → History → Cluster Name
 clusterOf set w = record {
   set = set;
   honest = w .honest;
@@ -93,7 +93,7 @@ traced c = record { timed = c .timed .0; high-view = c .high .view .0; high-name
 abbrev pub rowIn : List (List ℕ) → List (Name × ℕ)
 rowIn l = released reads l
 
-module _ (set : Settings) (w : World) where
+module _ (set : Settings) (w : History) where
   abbrev pub R : Cluster Name
   R = clusterOf set w
 
@@ -112,10 +112,10 @@ module _ (set : Settings) (w : World) where
     pub vote-on : (v : ℕ) (x : Name) (c : Cert Name) → Trace.Votes acts v x c → VoteGround v x c
     pub commit-on : (v : ℕ) (x : Name) → Trace.Commits acts v x → Signed R (blockOf v x)
 
-  -- a good certificate of a view below the roof, with signers below n
-  pub record Standing (roof : ℕ) (k : Certificate) : Type 0 where
+  -- a good certificate of a view below the limit, with signers below n
+  pub record GoodBelow (limit : ℕ) (k : Certificate) : Type 0 where
     pub good : Good R (cert k)
-    pub below : k .view .0 < roof
+    pub below : k .view .0 < limit
     pub signers : k .signers < 2 ^ size
 
   -- a progress certificate of view u by the record r, whose sender is j
@@ -127,15 +127,15 @@ module _ (set : Settings) (w : World) where
     pub of-view : viewOfProgress says ≡ u
     pub progress : Progress R u (cert (safeCertificate set says))
 
-  -- certificates are good, and below the roof: the view, or the view that is being entered. j is the own number, r the entry certificate's record
-  pub record Certified (roof j : ℕ) (c : Counters) (r : List ℕ) : Type 0 where
-    pub view-le : c .view .0 ≤ roof
-    pub roof-le : roof ≤ lastView
-    pub high-le : c .high .view .0 ≤ roof
+  -- certificates are good, and below the limit: the view, or the view that is being entered. j is the own number, r the entry certificate's record
+  pub record Certified (limit j : ℕ) (c : Counters) (r : List ℕ) : Type 0 where
+    pub view-le : c .view .0 ≤ limit
+    pub limit-le : limit ≤ lastView
+    pub high-le : c .high .view .0 ≤ limit
     pub high-named : c .high .view .0 ≡ 0 → c .high .name ≡ zeroName
     pub high-viewed : c .high .name ≡ zeroName → c .high .view .0 ≡ 0
-    pub lock : Standing roof (certificateOf true (c .lock))
-    pub weak : Standing roof (certificateOf false (c .weak))
+    pub lock : GoodBelow limit (certificateOf true (c .lock))
+    pub weak : GoodBelow limit (certificateOf false (c .weak))
     pub before : ℕ
     pub view-is : c .view .0 ≡ suc before
     pub entered : Entry j before r
@@ -192,12 +192,12 @@ module _ (set : Settings) (w : World) where
     pub tip-apart : (b : Block) → In b store → b .name ≡ tip .name → ⊥
 
   -- THE INVARIANT of replica i, which made the records l
-  pub record Real (i roof : ℕ) (W : Work) (l : List (List ℕ)) : Type 0 where
+  pub record Invariant (i limit : ℕ) (W : Work) (l : List (List ℕ)) : Type 0 where
     pub regular : Regular W
     pub set-is : settings W ≡ set
     pub mine : own W ≡ i
     pub sent : All (Sent size) l
     pub acted : Acted l (traced (W .counters))
-    pub certified : Certified roof (own W) (W .counters) (entryOf (W .memory))
+    pub certified : Certified limit (own W) (W .counters) (entryOf (W .memory))
     pub tables : Tables (viewNow W) (W .memory)
     pub chained : Chained l (tip W) (blocks W)

@@ -32,27 +32,27 @@ use Rattle.protocol.specs.Typed.{BlockTyped}
 use Rattle.protocol.specs.Refusals.{storeLength, viewOfProgress, misplaced, noRoom, safeName, child, refusals}
 use Rattle.protocol.specs.Events.{progress, propositionOf, onRecord}
 use Rattle.protocol.specs.OneChain.{Placement, timeoutSays, certificateSays, recordSays, recordGives, reads}
-use Rattle.protocol.proofs.chain.Invariant.{Name, World, R, size, ParentHeld, placementOf}
+use Rattle.protocol.proofs.chain.Invariant.{Name, History, R, size, ParentHeld, placementOf}
 use Rattle.protocol.proofs.chain.Actions.{few}
 use Rattle.protocol.proofs.chain.Records.{encode-framed}
-use Rattle.protocol.proofs.chain.Progress.{Sound, Seen, TakenAt, progress-went}
-use Rattle.protocol.proofs.chain.Says.{ToldAs, Says, timeout-fine, certificate-told}
+use Rattle.protocol.proofs.chain.Progress.{Sound, Recorded, TakenAt, progressed}
+use Rattle.protocol.proofs.chain.Says.{ActOf, Says, timeout-fine, certificate-accepted}
 use Rattle.protocol.proofs.chain.Accepted.{other-is, above-is, below-is, parent-is, held-parent, count-is, vote-sound, commit-sound, kept-sound, hold-sound, ready-any, proposition-sound}
 
-module _ (set : Settings) (w : World) (H : HighVoted (R set w)) (i : ℕ) (l₀ : List (List ℕ)) where
+module _ (set : Settings) (w : History) (H : HighVoted (R set w)) (i : ℕ) (l₀ : List (List ℕ)) where
   abbrev Snd : Work → Type 0
   Snd W = Sound set w i l₀ W
 
   -- ---- ACCEPTED RECORDS: r, which reads as q
   module _ (W : Work) (S : Snd W) (r : List ℕ) (bytes : IsBytes r) where
     abbrev Sn : Type 0
-    Sn = Seen set w i l₀ S
+    Sn = Recorded set w i l₀ S
 
     set-is : Sn → settings W ≡ set
-    set-is a = S .real a .set-is
+    set-is a = S .invariant a .set-is
 
     few-all : Sn → size set w ≤ largest
-    few-all a = few set w i (viewNow W) W (l₀ ++ S .made) (S .real a)
+    few-all a = few set w i (viewNow W) W (l₀ ++ S .made) (S .invariant a)
 
     -- n, as the invariant has it
     with-size : (P : ℕ → Type 0) → Sn → P (n W) → P (size set w)
@@ -63,7 +63,7 @@ module _ (set : Settings) (w : World) (H : HighVoted (R set w)) (i : ℕ) (l₀ 
         → p ≡ certificateBytes j k → Says w (certificateSays (n W) p k) → Sn → TakenAt set w (viewOfProgress (certificateOf p)) p
     taken p j k low small f proper good is s a =
         let back : certificateOf p ≡ k = ap certificateOf is ∙ certificate-back j k low f in
-        rw back (certificate-told set w H (few-all a) W j k low small f (with-size (λ m. CertificateProper m k) a proper) (subst (λ (t : Settings). progressGood t k ≡ true) (set-is a) good) p is
+        rw back (certificate-accepted set w H (few-all a) W j k low small f (with-size (λ m. CertificateProper m k) a proper) (subst (λ (t : Settings). progressGood t k ≡ true) (set-is a) good) p is
         (with-size (λ m. Says w (certificateSays m p k)) a s))
 
     cert-framed : (p : List ℕ) (j : ℕ) (k : Certificate) → j < 2 ^ 16 → CertificateFits k → p ≡ certificateBytes j k → Framed p
@@ -74,11 +74,11 @@ module _ (set : Settings) (w : World) (H : HighVoted (R set w)) (i : ℕ) (l₀ 
         → r ≡ certificateBytes j k → Says w (certificateSays (n W) r k) → Snd (progress r W)
     cert-sound j k low small f proper good is s =
         let back : certificateOf r ≡ k = ap certificateOf is ∙ certificate-back j k low f in
-        progress-went set w i l₀ r W S (taken r j k low small f proper good is s) (cert-framed r j k low f is) (rw back f) .sound
+        progressed set w i l₀ r W S (taken r j k low small f proper good is s) (cert-framed r j k low f is) (rw back f) .sound
 
-    first-told : (j : ℕ) (more : List (ℕ × List ℕ)) (q : Content) → content r ≡ q → Says w ((j, r) ∷ more) → T (w .honest j) → ToldAs w j q
+    first-act : (j : ℕ) (more : List (ℕ × List ℕ)) (q : Content) → content r ≡ q → Says w ((j, r) ∷ more) → T (w .honest j) → ActOf w j q
     unfolding All
-    first-told j more q e s h = subst (ToldAs w j) e (s .0 h)
+    first-act j more q e s h = subst (ActOf w j) e (s .0 h)
 
     -- what a record of kind 7 or 8 gives a name
     given : (b : Placement) → All (w .Placed) (b ∷ []) → w .Placed b
@@ -90,7 +90,7 @@ module _ (set : Settings) (w : World) (H : HighVoted (R set w)) (i : ℕ) (l₀ 
 
     room-is : (x : Name) → noRoom W x ≡ false → heldBlock W x .is ≡ false → Sn → length (blocks W) < storeLength
     room-is x e new a =
-        let c = count-is set w H i l₀ W (S .real a .regular) in
+        let c = count-is set w H i l₀ W (S .invariant a .regular) in
         let full : leb storeLength (blockCountOf (W .memory)) ≡ false = rw new at e in
         omega (arith, c, leb-false storeLength (blockCountOf (W .memory)) full)
 
@@ -130,10 +130,10 @@ module _ (set : Settings) (w : World) (H : HighVoted (R set w)) (i : ℕ) (l₀ 
     unfolding refusals onRecord Fits Proper encode
     by-kind (vote j v x) e is f p t s b =
         let k = above-is W v (t .1 .1 .0) in
-        vote-sound set w H i l₀ W S j v x (other-is W j (t .0)) (record { first = ltb-false _ _ (t .1 .0); last = k .0 }) (k .1) (f .2) (first-told j [] (vote j v x) e s)
+        vote-sound set w H i l₀ W S j v x (other-is W j (t .0)) (record { first = ltb-false _ _ (t .1 .0); last = k .0 }) (k .1) (f .2) (first-act j [] (vote j v x) e s)
     by-kind (commit j v x) e is f p t s b =
         let k = above-is W v (t .1 .1 .0) in
-        commit-sound set w H i l₀ W S j v x (other-is W j (t .0)) (record { first = ltb-false _ _ (t .1 .0); last = k .0 }) (k .1) (f .2) (first-told j [] (commit j v x) e s)
+        commit-sound set w H i l₀ W S j v x (other-is W j (t .0)) (record { first = ltb-false _ _ (t .1 .0); last = k .0 }) (k .1) (f .2) (first-act j [] (commit j v x) e s)
     by-kind (certificate j (byBlock v x g)) e is f p t s b =
         cert-sound j (byBlock v x g) (f .0) (leb-false _ _ (t .1 .0)) (f .1) p (good-block v x g (not-false _ (t .1 .1 .0))) (sym is) s
     by-kind (certificate j (byTimeouts v ts)) e is f p t s b =

@@ -35,15 +35,15 @@ use Rattle.protocol.specs.Events.{onTimer, onPropose}
 use Rattle.protocol.specs.OneChain.{reads}
 use Rattle.protocol.proofs.call.Regular.{Regular, form-room}
 use Rattle.protocol.proofs.call.Certificates.{fits-typed, form-fits}
-use Rattle.protocol.proofs.chain.Invariant.{ParentHeld, Name, World, R, size, Sent, Entry, Real, placementOf}
+use Rattle.protocol.proofs.chain.Invariant.{ParentHeld, Name, History, R, size, Sent, Entry, Invariant, placementOf}
 use Rattle.protocol.proofs.chain.Records.{reads-encode, joined-more, proposal-framed}
-use Rattle.protocol.proofs.chain.Actions.{size-is, few, sent-real}
-use Rattle.protocol.proofs.chain.Progress.{framed-more, all-left, all-right, all-head, Shown, shown-as, Sound, Seen, grown, TakenAt}
+use Rattle.protocol.proofs.chain.Actions.{size-is, few, sent-invariant}
+use Rattle.protocol.proofs.chain.Progress.{framed-more, all-left, all-right, all-head, RecordIn, record-of, Sound, Recorded, grown, TakenAt}
 use Rattle.protocol.proofs.chain.Formed.{certificate-signers}
 use Rattle.protocol.proofs.chain.Rules.{timeout-sound}
 use Rattle.protocol.proofs.chain.Accepted.{below-is, parent-is, held-parent, count-is, ready-now, proposition-sound}
 
-module _ (set : Settings) (w : World) (H : HighVoted (R set w)) (i : ℕ) (l₀ : List (List ℕ)) where
+module _ (set : Settings) (w : History) (H : HighVoted (R set w)) (i : ℕ) (l₀ : List (List ℕ)) where
   abbrev Snd : Work → Type 0
   Snd W = Sound set w i l₀ W
 
@@ -104,13 +104,13 @@ module _ (set : Settings) (w : World) (H : HighVoted (R set w)) (i : ℕ) (l₀ 
     W₀ = send W q
 
     abbrev Sn₀ : Type 0
-    Sn₀ = Seen set w i l₀ S
+    Sn₀ = Recorded set w i l₀ S
 
     low₀ : Sn₀ → own W < 2 ^ 16
-    low₀ a = omega (arith, S .real a .regular .member, S .real a .regular .few)
+    low₀ a = omega (arith, S .invariant a .regular .member, S .invariant a .regular .few)
 
     size₀ : Sn₀ → size set w ≤ largest
-    size₀ a = few set w i v W (l₀ ++ S .made) (S .real a)
+    size₀ a = few set w i v W (l₀ ++ S .made) (S .invariant a)
 
     turn : ((eqb (highView W) v || leb lastView v) ≡ false) × (leb v (timed W) ≡ false)
     unfolding proposeRules
@@ -122,11 +122,11 @@ module _ (set : Settings) (w : World) (H : HighVoted (R set w)) (i : ℕ) (l₀ 
     small₀ : v < lastView
     small₀ = leb-false lastView v (or-false (eqb (highView W) v) (leb lastView v) (turn .0) .1)
 
-    entry₀ : (a : Sn₀) → Entry set w (own W) (S .real a .certified .before) r
-    entry₀ a = S .real a .certified .entered
+    entry₀ : (a : Sn₀) → Entry set w (own W) (S .invariant a .certified .before) r
+    entry₀ a = S .invariant a .certified .entered
 
-    before-is : (a : Sn₀) → v ≡ suc (S .real a .certified .before)
-    before-is a = S .real a .certified .view-is
+    before-is : (a : Sn₀) → v ≡ suc (S .invariant a .certified .before)
+    before-is a = S .invariant a .certified .view-is
 
     back₀ : (a : Sn₀) → certificateOf r ≡ entry₀ a .says
     back₀ a = ap certificateOf (entry₀ a .is) ∙ certificate-back (own W) (entry₀ a .says) (low₀ a) (entry₀ a .fits)
@@ -138,7 +138,7 @@ module _ (set : Settings) (w : World) (H : HighVoted (R set w)) (i : ℕ) (l₀ 
     typed₀ : Sn₀ → BlockTyped b
     unfolding proposeRules
     typed₀ a =
-        let s = S .real a .set-is in
+        let s = S .invariant a .set-is in
         let p = parent-is W b (t .1 .1 .1 .1 .0) in
         let k = fits-typed set (entry₀ a .says) (omega (arith, size₀ a)) (entry₀ a .fits) in
         record { name = name; parent = rw (s, back₀ a) (k .name); height = omega (arith, p .1) }
@@ -160,16 +160,16 @@ module _ (set : Settings) (w : World) (H : HighVoted (R set w)) (i : ℕ) (l₀ 
       says = content₀ a;
       is = q-is a;
       fits = q-fits a;
-      passes = (named₀, omega (arith, S .real a .regular .member, size-is set w i v W (l₀ ++ S .made) (S .real a)), entry₀ a .proper);
+      passes = (named₀, omega (arith, S .invariant a .regular .member, size-is set w i v W (l₀ ++ S .made) (S .invariant a)), entry₀ a .proper);
     }
 
     q-reads : Sn₀ → reads q ≡ is-other
     unfolding content₀
     q-reads a = rw (q-is a) (reads-encode (content₀ a) (q-fits a))
 
-    q-placed : (a : Sn₀) → Shown w i q → w .Placed (placementOf b)
+    q-placed : (a : Sn₀) → RecordIn w i q → w .Placed (placementOf b)
     unfolding content₀
-    q-placed a z = shown-as w i (content₀ a) (q-fits a) (subst (Shown w i) (q-is a) z)
+    q-placed a z = record-of w i (content₀ a) (q-fits a) (subst (RecordIn w i) (q-is a) z)
 
     -- the safe block of the entry certificate has a name, on any content of the memory
     safe-name : IsName (b .parent)
@@ -186,18 +186,18 @@ module _ (set : Settings) (w : World) (H : HighVoted (R set w)) (i : ℕ) (l₀ 
       made = S .made ++ (q ∷ []);
       framed = framed-more (S .made) q (S .framed) q-framed;
       out-is = ap (λ (o : List ℕ). o ++ q) (S .out-is) ∙ sym (joined-more (S .made) q);
-      real = λ a.
-          let z = all-left (Shown w i) (S .made) (q ∷ []) a in
-          grown set w i l₀ (λ m. Real set w i v W₀ m) (S .made) q (sent-real set w i v W (l₀ ++ S .made) q (q-sent z) (q-reads z) (S .real z));
+      invariant = λ a.
+          let z = all-left (RecordIn w i) (S .made) (q ∷ []) a in
+          grown set w i l₀ (λ m. Invariant set w i v W₀ m) (S .made) q (sent-invariant set w i v W (l₀ ++ S .made) q (q-sent z) (q-reads z) (S .invariant z));
     }
 
-    earlier₀ : Seen set w i l₀ S₀ → Sn₀
+    earlier₀ : Recorded set w i l₀ S₀ → Sn₀
     unfolding S₀
-    earlier₀ a = all-left (Shown w i) (S .made) (q ∷ []) a
+    earlier₀ a = all-left (RecordIn w i) (S .made) (q ∷ []) a
 
-    latest₀ : Seen set w i l₀ S₀ → Shown w i q
+    latest₀ : Recorded set w i l₀ S₀ → RecordIn w i q
     unfolding S₀
-    latest₀ a = all-head (Shown w i) q [] (all-right (Shown w i) (S .made) (q ∷ []) a)
+    latest₀ a = all-head (RecordIn w i) q [] (all-right (RecordIn w i) (S .made) (q ∷ []) a)
 
     -- what the tests say of the safe block and of the room
     place₀ : Sn₀ → ParentHeld set w (tip W) (blocks W) b × (b .height .0 ≤ lastHeight)
@@ -207,13 +207,13 @@ module _ (set : Settings) (w : World) (H : HighVoted (R set w)) (i : ℕ) (l₀ 
     room₀ : heldBlock W x .is ≡ false → Sn₀ → length (blocks W) < storeLength
     unfolding proposeRules
     room₀ new a =
-        let c = count-is set w H i l₀ W (S .real a .regular) in
+        let c = count-is set w H i l₀ W (S .invariant a .regular) in
         let full : leb storeLength (blockCountOf (W .memory)) ≡ false = rw new at (t .1 .1 .1 .1 .1 .0) in
         omega (arith, c, leb-false storeLength (blockCountOf (W .memory)) full)
 
     taken₀ : Sn₀ → TakenAt set w (viewOfProgress (certificateOf r)) r
     taken₀ a =
-        let u = S .real a .certified .before in
+        let u = S .invariant a .certified .before in
         let e : viewOfProgress (certificateOf r) ≡ u = ap viewOfProgress (back₀ a) ∙ entry₀ a .of-view in
         rw e (entry-taken (own W) u r (low₀ a) (omega (arith, before-is a, small₀)) (size₀ a) (entry₀ a))
 
@@ -225,5 +225,5 @@ module _ (set : Settings) (w : World) (H : HighVoted (R set w)) (i : ℕ) (l₀ 
         (λ a. taken₀ (earlier₀ a))
         (λ a. let z = earlier₀ a in omega (arith, before-is z, ap viewOfProgress (back₀ z), entry₀ z .of-view))
         small₀ (λ a. typed₀ (earlier₀ a)) (name .size) named₀ (λ a. q-placed (earlier₀ a) (latest₀ a))
-        (λ a. ap (λ (z : Settings). safeCertificate z (certificateOf r) .name) (S .real (earlier₀ a) .set-is))
+        (λ a. ap (λ (z : Settings). safeCertificate z (certificateOf r) .name) (S .invariant (earlier₀ a) .set-is))
         (λ new a. room₀ new (earlier₀ a)) (λ a. place₀ (earlier₀ a))

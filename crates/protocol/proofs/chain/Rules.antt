@@ -41,12 +41,12 @@ use Rattle.protocol.proofs.loop.Advance.{timeout-window, ballot-window}
 use Rattle.protocol.proofs.loop.RuleD.{applied-in}
 use Rattle.protocol.proofs.loop.Loop.{settle-is-the-loop}
 use Rattle.protocol.proofs.loop.Settle.{voted-name, turn-regular}
-use Rattle.protocol.proofs.chain.Invariant.{Name, World, R, size, Real}
+use Rattle.protocol.proofs.chain.Invariant.{Name, History, R, size, Invariant}
 use Rattle.protocol.proofs.chain.Records.{joined-more, joined-append, encode-framed, release-framed, block-framed, timeouts-framed}
 use Rattle.protocol.proofs.chain.Actions.{size-is, few, all-one}
-use Rattle.protocol.proofs.chain.Acts.{timed-real}
-use Rattle.protocol.proofs.chain.Blocks.{held-typed, row-typed, release-real}
-use Rattle.protocol.proofs.chain.Progress.{framed-more, all-left, all-right, all-head, Shown, shown-as, Sound, Seen, TakenAt, progress-went}
+use Rattle.protocol.proofs.chain.Acts.{timed-invariant}
+use Rattle.protocol.proofs.chain.Blocks.{held-typed, row-typed, release-invariant}
+use Rattle.protocol.proofs.chain.Progress.{framed-more, all-left, all-right, all-head, RecordIn, record-of, Sound, Recorded, TakenAt, progressed}
 use Rattle.protocol.proofs.chain.Formed.{formed-taken, block-taken, direct}
 
 -- releases of typed blocks are whole records
@@ -59,7 +59,7 @@ held-tip : (tip : Block) (store : List Block) (x : Name) → sameBytes (tip .nam
 unfolding held
 held-tip tip store x e = rw e (same-eq (tip .name) x e)
 
-module _ (set : Settings) (w : World) (H : HighVoted (R set w)) (i : ℕ) (l₀ : List (List ℕ)) where
+module _ (set : Settings) (w : History) (H : HighVoted (R set w)) (i : ℕ) (l₀ : List (List ℕ)) where
   -- ---- a timeout is sent
   module _ (v : ℕ) (W : Work) (reg : Regular W) (S : Sound set w i l₀ W) where
     abbrev q : List ℕ
@@ -77,21 +77,21 @@ module _ (set : Settings) (w : World) (H : HighVoted (R set w)) (i : ℕ) (l₀ 
     unfolding encode Fits
     q-framed small = encode-framed (timeout (ownTimeout W v)) (own-timeout-fits W v (omega (arith, small)) reg)
 
-    did : (a : Seen set w i l₀ S) → v < lastView → Shown w i q → w .TimedOut i (Safety.content (ownTimeout W v))
+    did : (a : Recorded set w i l₀ S) → v < lastView → RecordIn w i q → w .TimedOut i (Safety.content (ownTimeout W v))
     unfolding encode Fits
-    did a small z = shown-as w i (timeout (ownTimeout W v)) (own-timeout-fits W v (omega (arith, small)) (S .real a .regular)) z
+    did a small z = record-of w i (timeout (ownTimeout W v)) (own-timeout-fits W v (omega (arith, small)) (S .invariant a .regular)) z
 
     pub timeout-sound : v < lastView → timed W < v → Windowed timeouts (viewNow W) v → Sound set w i l₀ (sendTimeout v W)
     timeout-sound small late in-window = record {
       made = S .made ++ (q ∷ []);
       framed = framed-more (S .made) q (S .framed) (q-framed small);
       out-is = timeout-out ∙ ap (λ (o : List ℕ). o ++ q) (S .out-is) ∙ sym (joined-more (S .made) q);
-      real = λ a.
-          let b = all-left (Shown w i) (S .made) (q ∷ []) a in
-          let z = all-head (Shown w i) q [] (all-right (Shown w i) (S .made) (q ∷ []) a) in
-          subst (λ (l : List (List ℕ)). Real set w i (viewNow (sendTimeout v W)) (sendTimeout v W) l) (append-assoc l₀ (S .made) (q ∷ []))
-          (subst (λ (r : ℕ). Real set w i r (sendTimeout v W) ((l₀ ++ S .made) ++ (q ∷ []))) (sym timeout-view)
-          (timed-real set w i (viewNow W) W (l₀ ++ S .made) (S .real b) v small (omega (arith, in-window .first)) late in-window (did b small z)));
+      invariant = λ a.
+          let b = all-left (RecordIn w i) (S .made) (q ∷ []) a in
+          let z = all-head (RecordIn w i) q [] (all-right (RecordIn w i) (S .made) (q ∷ []) a) in
+          subst (λ (l : List (List ℕ)). Invariant set w i (viewNow (sendTimeout v W)) (sendTimeout v W) l) (append-assoc l₀ (S .made) (q ∷ []))
+          (subst (λ (r : ℕ). Invariant set w i r (sendTimeout v W) ((l₀ ++ S .made) ++ (q ∷ []))) (sym timeout-view)
+          (timed-invariant set w i (viewNow W) W (l₀ ++ S .made) (S .invariant b) v small (omega (arith, in-window .first)) late in-window (did b small z)));
     }
 
   -- ---- what applies, in the words of the invariant
@@ -101,16 +101,16 @@ module _ (set : Settings) (w : World) (H : HighVoted (R set w)) (i : ℕ) (l₀ 
         let k = timeout-window (viewNow W) v (a .window) in
         timeout-sound v W reg S (k .below) (a .untimed) (record { first = k .from; last = k .to })
 
-    low : (a : Seen set w i l₀ S) → own W < 2 ^ 16
-    low a = omega (arith, S .real a .regular .member, S .real a .regular .few)
+    low : (a : Recorded set w i l₀ S) → own W < 2 ^ 16
+    low a = omega (arith, S .invariant a .regular .member, S .invariant a .regular .few)
 
     -- n, as the memory says it
-    nset : (a : Seen set w i l₀ S) → n W ≡ size set w
-    nset a = size-is set w i (viewNow W) W (l₀ ++ S .made) (S .real a)
+    nset : (a : Recorded set w i l₀ S) → n W ≡ size set w
+    nset a = size-is set w i (viewNow W) W (l₀ ++ S .made) (S .invariant a)
 
-    B-taken : (v : ℕ) → AppliesB v W → Seen set w i l₀ S → TakenAt set w v (formed (W .memory) v (n W) (own W))
+    B-taken : (v : ℕ) → AppliesB v W → Recorded set w i l₀ S → TakenAt set w v (formed (W .memory) v (n W) (own W))
     B-taken v a z =
-        let X = S .real z in
+        let X = S .invariant z in
         let k = timeout-window (viewNow W) v (a .window) in
         let e = nset z in
         let s = X .set-is in
@@ -118,10 +118,10 @@ module _ (set : Settings) (w : World) (H : HighVoted (R set w)) (i : ℕ) (l₀ 
         (few set w i (viewNow W) W (l₀ ++ S .made) X) (k .below)
         (subst (λ (t : Settings). timeoutQuorum t ≤ keptCount (W .memory) (timeoutRow v) (replicas t)) s (a .enough)))
 
-    C-taken : (v : ℕ) (x : Name) → AppliesC v x W → Seen set w i l₀ S
+    C-taken : (v : ℕ) (x : Name) → AppliesC v x W → Recorded set w i l₀ S
         → TakenAt set w v (blockCertificateBytes (own W) v x (signersFor v W x))
     C-taken v x a z =
-        let X = S .real z in
+        let X = S .invariant z in
         let k = ballot-window (viewNow W) v (a .window) in
         let e = nset z in
         let s = X .set-is in
@@ -132,9 +132,9 @@ module _ (set : Settings) (w : World) (H : HighVoted (R set w)) (i : ℕ) (l₀ 
         (subst (λ (t : Settings). blockQuorum t ≤ tally (W .memory) (voteRow v) x (replicas t) .count) s (a .enough)))
 
     -- a certificate formed of view v, which its record says
-    progress-sound : (v : ℕ) (r : List ℕ) → viewOfProgress (certificateOf r) ≡ v → (Seen set w i l₀ S → TakenAt set w v r) → Framed r → CertificateFits (certificateOf r)
+    progress-sound : (v : ℕ) (r : List ℕ) → viewOfProgress (certificateOf r) ≡ v → (Recorded set w i l₀ S → TakenAt set w v r) → Framed r → CertificateFits (certificateOf r)
         → Sound set w i l₀ (progress r W)
-    progress-sound v r e F whole fit = progress-went set w i l₀ r W S (λ z. rw e (F z)) whole fit .sound
+    progress-sound v r e F whole fit = progressed set w i l₀ r W S (λ z. rw e (F z)) whole fit .sound
 
     -- the block that is released has the name that was decided
     held-name : (v : ℕ) (x : Name) → AppliesD v x W → heldBlock W x .block .name ≡ x
@@ -144,9 +144,9 @@ module _ (set : Settings) (w : World) (H : HighVoted (R set w)) (i : ℕ) (l₀ 
         go true e = held-tip (tip W) (blocks W) x e
         go false e = held-in (tip W) (blocks W) x e (a .isHeld) .1
 
-    released-by : (v : ℕ) (x : Name) → AppliesD v x W → Seen set w i l₀ S → Direct (R set w) v (heldBlock W x .block .name)
+    released-by : (v : ℕ) (x : Name) → AppliesD v x W → Recorded set w i l₀ S → Direct (R set w) v (heldBlock W x .block .name)
     released-by v x a z =
-        let X = S .real z in
+        let X = S .invariant z in
         let k = ballot-window (viewNow W) v (a .window) in
         rw (held-name v x a) (direct set w H (W .memory) v x
         (λ j h b. X .tables .votes-true v j (record { first = k .from; last = k .to }) h b)
@@ -180,11 +180,11 @@ module _ (set : Settings) (w : World) (H : HighVoted (R set w)) (i : ℕ) (l₀ 
           made = S .made ++ rows v x;
           framed = all-append Framed (S .made) (rows v x) (S .framed) (rows-framed v x a);
           out-is = release-out v x ∙ ap (λ (o : List ℕ). o ++ joined (rows v x)) (S .out-is) ∙ sym (joined-append (S .made) (rows v x));
-          real = λ z.
-              let y = all-left (Shown w i) (S .made) (rows v x) z in
-              subst (λ (l : List (List ℕ)). Real set w i (viewNow (release v b W)) (release v b W) l) (append-assoc l₀ (S .made) (rows v x))
-              (subst (λ (r : ℕ). Real set w i r (release v b W) ((l₀ ++ S .made) ++ rows v x)) (sym (release-view v b))
-              (release-real set w i (viewNow W) W (l₀ ++ S .made) (S .real y) v (k .below) b (applied-in v x W a) (a .leadsDown) (released-by v x a y)));
+          invariant = λ z.
+              let y = all-left (RecordIn w i) (S .made) (rows v x) z in
+              subst (λ (l : List (List ℕ)). Invariant set w i (viewNow (release v b W)) (release v b W) l) (append-assoc l₀ (S .made) (rows v x))
+              (subst (λ (r : ℕ). Invariant set w i r (release v b W) ((l₀ ++ S .made) ++ rows v x)) (sym (release-view v b))
+              (release-invariant set w i (viewNow W) W (l₀ ++ S .made) (S .invariant y) v (k .below) b (applied-in v x W a) (a .leadsDown) (released-by v x a y)));
         }
 
   -- the view that a formed certificate says

@@ -40,20 +40,20 @@ use Rattle.protocol.specs.OneChain.{Placement, Step, calls, reopens, out
 use Rattle.protocol.proofs.call.Typing.{zero-is-name}
 use Rattle.protocol.proofs.call.Opening.{Openable, openedWork, opening-accepts, opened-settings, opened-own, opened-count, opened-entry, opened-none, opened-regular}
 use Rattle.protocol.proofs.call.OneCall.{begin-regular, coreOf, call-is}
-use Rattle.protocol.proofs.chain.Invariant.{World, R, size, Sent, Standing, Named, VoteKept, CommitKept, TimeoutKept, Real}
+use Rattle.protocol.proofs.chain.Invariant.{History, R, size, Sent, GoodBelow, Named, VoteKept, CommitKept, TimeoutKept, Invariant}
 use Rattle.protocol.proofs.chain.Tables.{HoldsIn}
 use Rattle.protocol.proofs.chain.Formed.{pow-positive}
-use Rattle.protocol.proofs.chain.Progress.{ShownAs, Shown}
-use Rattle.protocol.proofs.chain.Says.{ToldAs, Told, Says}
+use Rattle.protocol.proofs.chain.Progress.{RecordOf, RecordIn}
+use Rattle.protocol.proofs.chain.Says.{ActOf, ActIn, Says}
 use Rattle.protocol.proofs.chain.Call.{cut-joined, core-sound}
 
--- what a replica keeps between calls
-abbrev pub Keeping : Settings → World → ℕ → List (List ℕ) → Replica → Type 0
-Keeping set w i l r = Real set w i (viewNow (begin r)) (begin r) l
+-- the invariant of a replica between calls
+abbrev pub ReplicaInvariant : Settings → History → ℕ → List (List ℕ) → Replica → Type 0
+ReplicaInvariant set w i l r = Invariant set w i (viewNow (begin r)) (begin r) l
 
 -- what was written is no part of it
-pub forget-out : (set : Settings) (w : World) (i : ℕ) (l : List (List ℕ)) (W : Work) → Real set w i (viewNow W) W l
-    → Keeping set w i l (record { counters = W .counters; memory = W .memory; store = W .store })
+pub forget-out : (set : Settings) (w : History) (i : ℕ) (l : List (List ℕ)) (W : Work) → Invariant set w i (viewNow W) W l
+    → ReplicaInvariant set w i l (record { counters = W .counters; memory = W .memory; store = W .store })
 forget-out set w i l W X = record {
   regular = begin-regular W (X .regular);
   set-is = X .set-is;
@@ -77,13 +77,13 @@ gives-in (s ∷ l) r b (inl e) q = in-left b (recordGives (content s)) (recordsG
 gives-in (s ∷ l) r b (inr p) q = in-right b (recordGives (content s)) (recordsGive l) (gives-in l r b p q)
 
 -- ---- one call of a run
-module _ (set : Settings) (w : World) (H : HighVoted (R set w)) (F : Log replicaMachine) (B : List Placement)
-    (told : (j : ℕ) (q : List ℕ) → In (j, q) F → Told w j q) (placed : (b : Placement) → In b B → w .Placed b) where
+module _ (set : Settings) (w : History) (H : HighVoted (R set w)) (F : Log replicaMachine) (B : List Placement)
+    (acted : (j : ℕ) (q : List ℕ) → In (j, q) F → ActIn w j q) (placed : (b : Placement) → In b B → w .Placed b) where
   -- what a replica made in the run, and which placements it gave, shows what the record says
-  shown : (i : ℕ) (q : List ℕ) → In (i, q) F → ((b : Placement) → In b (recordGives (content q)) → In b B) → Shown w i q
-  shown i q p g = go (content q) (told i q p) g
+  recorded : (i : ℕ) (q : List ℕ) → In (i, q) F → ((b : Placement) → In b (recordGives (content q)) → In b B) → RecordIn w i q
+  recorded i q p g = go (content q) (acted i q p) g
     where
-      go : (c : Content) → ToldAs w i c → ((b : Placement) → In b (recordGives c) → In b B) → ShownAs w i c
+      go : (c : Content) → ActOf w i c → ((b : Placement) → In b (recordGives c) → In b B) → RecordOf w i c
       go (vote j v x) t g = t
       go (commit j v x) t g = t
       go (certificate j k) t g = tt
@@ -95,27 +95,27 @@ module _ (set : Settings) (w : World) (H : HighVoted (R set w)) (F : Log replica
   abbrev cutOf : Outcome → List (List ℕ)
   cutOf o = cutRecords (length (written o)) (written o)
 
-  module _ (i : ℕ) (l : List (List ℕ)) (s : Replica) (K : Keeping set w i l s) where
+  module _ (i : ℕ) (l : List (List ℕ)) (s : Replica) (K : ReplicaInvariant set w i l s) where
     -- what is to be shown of an outcome of the step st
     abbrev Goal : Step → Outcome → Type 0
     Goal st o = (T (accepted (o .reply)) → All (λ (a : ℕ × List ℕ). T (w .honest (a .0)) → In a F) (stepSays (n (begin s)) st))
         → ((q : List ℕ) → In q (cutOf o) → In (i, q) F)
         → ((b : Placement) → In b (cond (accepted (o .reply)) (stepGives st ++ recordsGive (cutOf o)) []) → In b B)
-        → Keeping set w i (l ++ cutOf o) (left o)
+        → ReplicaInvariant set w i (l ++ cutOf o) (left o)
 
     accepted-goal : (c : Call) (output : List ℕ) (W : Work) → CallTyped c → coreOf s (length output) c ≡ accepts W → Goal (calls c) (outcome s output (accepts W))
     unfolding outcome written
     accepted-goal c output W t e says made gave =
         let cut-is : take (length (W .out)) (W .out ++ drop (length (W .out)) output) ≡ W .out = take-append-seam (W .out) (drop (length (W .out)) output) in
-        let told-all : Says w (stepSays (n (begin s)) (calls c)) = all-impl _ _ (stepSays (n (begin s)) (calls c)) (λ a f h. told (a .0) (a .1) (f h)) (says tt) in
+        let said : Says w (stepSays (n (begin s)) (calls c)) = all-impl _ _ (stepSays (n (begin s)) (calls c)) (λ a f h. acted (a .0) (a .1) (f h)) (says tt) in
         let placed-all : All (w .Placed) (stepGives (calls c)) = all-of-in (w .Placed) (stepGives (calls c)) (λ b p. placed b (gave b (in-left b (stepGives (calls c)) (recordsGive (cutOf (outcome s output (accepts W)))) p))) in
-        let S = core-sound set w H i l s K c (length output) W t e told-all placed-all in
+        let S = core-sound set w H i l s K c (length output) W t e said placed-all in
         let same : cutRecords (length (W .out)) (W .out) ≡ S .made = ap (λ (o : List ℕ). cutRecords (length o) o) (S .out-is) ∙ cut-joined (S .made) (S .framed) (length (joined (S .made))) (omega arith) in
         let whole : cutOf (outcome s output (accepts W)) ≡ S .made = ap (λ (o : List ℕ). cutRecords (length o) o) cut-is ∙ same in
-        let seen : All (Shown w i) (S .made) = all-of-in (Shown w i) (S .made) (λ q p.
+        let seen : All (RecordIn w i) (S .made) = all-of-in (RecordIn w i) (S .made) (λ q p.
         let q-in : In q (cutOf (outcome s output (accepts W))) = subst (In q) (sym whole) p in
-        shown i q (made q q-in) (λ b g. gave b (in-right b (stepGives (calls c)) (recordsGive (cutOf (outcome s output (accepts W)))) (gives-in (cutOf (outcome s output (accepts W))) q b q-in g)))) in
-        subst (λ (m : List (List ℕ)). Keeping set w i (l ++ m) (record { counters = W .counters; memory = W .memory; store = W .store })) (sym whole) (forget-out set w i (l ++ S .made) W (S .real seen))
+        recorded i q (made q q-in) (λ b g. gave b (in-right b (stepGives (calls c)) (recordsGive (cutOf (outcome s output (accepts W)))) (gives-in (cutOf (outcome s output (accepts W))) q b q-in g)))) in
+        subst (λ (m : List (List ℕ)). ReplicaInvariant set w i (l ++ m) (record { counters = W .counters; memory = W .memory; store = W .store })) (sym whole) (forget-out set w i (l ++ S .made) W (S .invariant seen))
 
     refused-goal : (st : Step) (output : List ℕ) (a : ℕ) → Goal st (outcome s output (refuses a))
     unfolding outcome written cutRecords
@@ -138,7 +138,7 @@ module _ (set : Settings) (w : World) (H : HighVoted (R set w)) (F : Log replica
     open-goal f c k m own e = not-opened (reopens f c k m own) (openingCore s f c k m own) e
 
   -- EVERY CALL OF A RUN KEEPS THE INVARIANT
-  pub call-keeps : StepKeeps replicaMachine (w .honest) F B (Keeping set w)
+  pub call-keeps : StepKeeps replicaMachine (w .honest) F B (ReplicaInvariant set w)
   unfolding outcomeOf makes says gives
   call-keeps i t l s e ok K = go (e .step) (ok .0) (ok .1)
     where
@@ -147,13 +147,13 @@ module _ (set : Settings) (w : World) (H : HighVoted (R set w)) (F : Log replica
       go (reopens f c k m own) typed r = open-goal i l s K f c k m own r
 
 -- ---- WHAT AN ACCEPTED OPENING LEAVES
-module _ (set : Settings) (w : World) (i : ℕ) (m : List ℕ) (st : List Block) (o : Openable set i) (bytes : IsBytes m) (typed : All BlockTyped st) (long : memoryLength ≤ length m) (room : storeLength ≤ length st) where
+module _ (set : Settings) (w : History) (i : ℕ) (m : List ℕ) (st : List Block) (o : Openable set i) (bytes : IsBytes m) (typed : All BlockTyped st) (long : memoryLength ≤ length m) (room : storeLength ≤ length st) where
   abbrev W₀ : Work
   W₀ = openedWork m st set i
 
-  genesis-stands : (b : Bool) → Standing set w 1 (certificateOf b (record { view = record { 0 = 0 }; name = zeroName; signers = 0 }))
+  genesis-good : (b : Bool) → GoodBelow set w 1 (certificateOf b (record { view = record { 0 = 0 }; name = zeroName; signers = 0 }))
   unfolding certificateOf
-  genesis-stands b = record { good = inl refl; below = omega arith; signers = pow-positive (size set w) }
+  genesis-good b = record { good = inl refl; below = omega arith; signers = pow-positive (size set w) }
 
   -- no row has an entry
   nothing-kept : (P : ℕ → ℕ → List ℕ → Type 0) (t : Table) → HoldsIn (size set w) t P 1 (W₀ .memory)
@@ -186,9 +186,9 @@ module _ (set : Settings) (w : World) (i : ℕ) (m : List ℕ) (st : List Block)
   unfolding All
   nothing-sent = tt
 
-  pub opened-real : Real set w i 1 W₀ []
+  pub opened-invariant : Invariant set w i 1 W₀ []
   unfolding opened
-  opened-real = record {
+  opened-invariant = record {
     regular = opened-regular m st set i o bytes typed long room;
     set-is = opened-settings m set i o long;
     mine = opened-own m set i o long;
@@ -196,12 +196,12 @@ module _ (set : Settings) (w : World) (i : ℕ) (m : List ℕ) (st : List Block)
     acted = record { acts = []; matches = start; trace = Trace.opened refl refl; vote-on = λ v x c p. absurd p; commit-on = λ v x p. absurd p };
     certified = record {
       view-le = omega arith;
-      roof-le = lit≤ tt;
+      limit-le = lit≤ tt;
       high-le = omega arith;
       high-named = λ e. refl;
       high-viewed = λ e. refl;
-      lock = genesis-stands true;
-      weak = genesis-stands false;
+      lock = genesis-good true;
+      weak = genesis-good false;
       before = 0;
       view-is = refl;
       entered = record { says = byBlock 0 zeroName 0; is = entry₀-is; fits = fits₀; proper = proper₀; of-view = refl; progress = backed₀ };
@@ -221,11 +221,11 @@ module _ (set : Settings) (w : World) (i : ℕ) (m : List ℕ) (st : List Block)
   }
 
 -- the state of an opened replica
-pub opened-keeping : (set : Settings) (w : World) (i : ℕ) (r : Replica) → Opened set i r → Keeping set w i [] r
+pub opening-establishes : (set : Settings) (w : History) (i : ℕ) (r : Replica) → Opened set i r → ReplicaInvariant set w i [] r
 unfolding opened
-opened-keeping set w i r O =
+opening-establishes set w i r O =
     let A = opening-accepts (O .lent) (set .f) (set .c) (set .k) (replicas set) i (O .work) (O .opens) in
-    let X = opened-real set w i (O .lent .memory) (O .lent .store) (A .openable) (O .memory) (O .store) (A .memory) (A .store) in
+    let X = opened-invariant set w i (O .lent .memory) (O .lent .store) (A .openable) (O .memory) (O .store) (A .memory) (A .store) in
     let is : r ≡ record { counters = opened; memory = openedWork (O .lent .memory) (O .lent .store) set i .memory; store = O .lent .store } =
     O .leaves ∙ ap (λ (W : Work). let s : Replica = record { counters = W .counters; memory = W .memory; store = W .store } in s) (A .left) in
-    subst (Keeping set w i []) (sym is) X
+    subst (ReplicaInvariant set w i []) (sym is) X

@@ -32,48 +32,48 @@ use Rattle.safety.proofs.Signers.{good, fine}
 use Rattle.protocol.specs.Work.{Work}
 use Rattle.protocol.specs.Refusals.{viewOfProgress}
 use Rattle.protocol.specs.OneChain.{votesOf, timeoutSays, timeoutsSay, certificateSays}
-use Rattle.protocol.proofs.chain.Invariant.{Name, World, R, size}
+use Rattle.protocol.proofs.chain.Invariant.{Name, History, R, size}
 use Rattle.protocol.proofs.call.Certificates.{fits-typed}
 use Rattle.protocol.proofs.chain.Progress.{all-left, all-right, TakenAt}
 use Rattle.protocol.proofs.chain.Formed.{timeouts-taken}
 
--- ---- a record of replica j that is in the run says what j did
-abbrev pub ToldAs : World → ℕ → Content → Type 0
-ToldAs w j (vote k v x) = w .Voted j v x
-ToldAs w j (commit k v x) = w .Committed j v x
-ToldAs w j (certificate s k) = Unit {0}
-ToldAs w j (timeout t) = w .TimedOut j (Safety.content t)
-ToldAs w j (proposal s v x y h k) = Unit {0}
-ToldAs w j (block s x y h) = Unit {0}
-ToldAs w j (release s v x h) = Unit {0}
+-- ---- what a record of replica j says that j did is in the history: its vote, commit or timeout
+abbrev pub ActOf : History → ℕ → Content → Type 0
+ActOf w j (vote k v x) = w .Voted j v x
+ActOf w j (commit k v x) = w .Committed j v x
+ActOf w j (certificate s k) = Unit {0}
+ActOf w j (timeout t) = w .TimedOut j (Safety.content t)
+ActOf w j (proposal s v x y h k) = Unit {0}
+ActOf w j (block s x y h) = Unit {0}
+ActOf w j (release s v x h) = Unit {0}
 
-abbrev pub Told : World → ℕ → List ℕ → Type 0
-Told w j r = ToldAs w j (content r)
+abbrev pub ActIn : History → ℕ → List ℕ → Type 0
+ActIn w j r = ActOf w j (content r)
 
-told-as : (w : World) (j : ℕ) (q : Content) → Fits q → Told w j (encode q) → ToldAs w j q
-told-as w j q f t = subst (ToldAs w j) (read-written q f) t
+act-of : (w : History) (j : ℕ) (q : Content) → Fits q → ActIn w j (encode q) → ActOf w j q
+act-of w j q f t = subst (ActOf w j) (read-written q f) t
 
 -- what accepted records say of honest replicas is so
-abbrev pub Says : World → List (ℕ × List ℕ) → Type 0
-Says w l = All (λ (a : ℕ × List ℕ). T (w .honest (a .0)) → Told w (a .0) (a .1)) l
+abbrev pub Says : History → List (ℕ × List ℕ) → Type 0
+Says w l = All (λ (a : ℕ × List ℕ). T (w .honest (a .0)) → ActIn w (a .0) (a .1)) l
 
-abbrev Saying : World → ℕ × List ℕ → Type 0
-Saying w a = T (w .honest (a .0)) → Told w (a .0) (a .1)
+abbrev Saying : History → ℕ × List ℕ → Type 0
+Saying w a = T (w .honest (a .0)) → ActIn w (a .0) (a .1)
 
-vote-told : (w : World) (j v : ℕ) (x : Name) → j < largest → IsU64 v → IsName x → Told w j (voteBytes 1 j v x) → w .Voted j v x
+vote-act : (w : History) (j v : ℕ) (x : Name) → j < largest → IsU64 v → IsName x → ActIn w j (voteBytes 1 j v x) → w .Voted j v x
 unfolding encode Fits
-vote-told w j v x low hv name z = told-as w j (vote j v x) (omega (arith, low), hv, name) z
+vote-act w j v x low hv name z = act-of w j (vote j v x) (omega (arith, low), hv, name) z
 
-says-head : (w : World) (a : ℕ × List ℕ) (l : List (ℕ × List ℕ)) → Says w (a ∷ l) → Saying w a
+says-head : (w : History) (a : ℕ × List ℕ) (l : List (ℕ × List ℕ)) → Says w (a ∷ l) → Saying w a
 unfolding All
 says-head w a l s = s .0
 
-says-tail : (w : World) (a : ℕ × List ℕ) (l : List (ℕ × List ℕ)) → Says w (a ∷ l) → Says w l
+says-tail : (w : History) (a : ℕ × List ℕ) (l : List (ℕ × List ℕ)) → Says w (a ∷ l) → Says w l
 unfolding All
 says-tail w a l s = s .1
 
 -- each honest signer below k made its vote
-votes-truly : (w : World) (g v : ℕ) (x : Name) → IsU64 v → IsName x → (k : ℕ) → k ≤ largest → Says w (votesOf k g v x)
+votes-truly : (w : History) (g v : ℕ) (x : Name) → IsU64 v → IsName x → (k : ℕ) → k ≤ largest → Says w (votesOf k g v x)
     → (j : ℕ) → j < k → T (w .honest j) → T (signs g j) → w .Voted j v x
 votes-truly w g v x hv name zero small s j low h t = absurd (omega (arith, low))
 votes-truly w g v x hv name (suc k) small s j low h t = go (signs g k) refl s (votes-truly w g v x hv name k (omega arith))
@@ -83,7 +83,7 @@ votes-truly w g v x hv name (suc k) small s j low h t = go (signs g k) refl s (v
     go true e s rest = ⊎-elim
         (λ l. rest (says-tail w (k, voteBytes 1 k v x) (votesOf k g v x) s) j l h t)
         (⊎-elim
-        (λ q. subst (λ (n : ℕ). w .Voted n v x) (sym q) (vote-told w k v x (omega (arith, small)) hv name (says-head w (k, voteBytes 1 k v x) (votesOf k g v x) s (subst (λ (n : ℕ). T (w .honest n)) q h))))
+        (λ q. subst (λ (n : ℕ). w .Voted n v x) (sym q) (vote-act w k v x (omega (arith, small)) hv name (says-head w (k, voteBytes 1 k v x) (votesOf k g v x) s (subst (λ (n : ℕ). T (w .honest n)) q h))))
         (λ l. absurd (omega (arith, l, low))))
         (which j k)
     go false e s rest = ⊎-elim
@@ -91,7 +91,7 @@ votes-truly w g v x hv name (suc k) small s j low h t = go (signs g k) refl s (v
         (⊎-elim (λ q. absurd (subst (λ (b : Bool). T b) e (subst (λ (n : ℕ). T (signs g n)) q t))) (λ l. absurd (omega (arith, l, low))))
         (which j k)
 
-module _ (set : Settings) (w : World) (H : HighVoted (R set w)) (few : size set w ≤ largest) where
+module _ (set : Settings) (w : History) (H : HighVoted (R set w)) (few : size set w ≤ largest) where
   -- ---- a block certificate that passes the tests
   module _ (j v : ℕ) (x : Name) (g : ℕ) (low : j < 2 ^ 16) (small : v < lastView) (f : CertificateFits (byBlock v x g)) (p : CertificateProper (size set w) (byBlock v x g))
       (e : progressGood set (byBlock v x g) ≡ true) (s : Says w (votesOf (size set w) g v x)) where
@@ -99,9 +99,9 @@ module _ (set : Settings) (w : World) (H : HighVoted (R set w)) (few : size set 
     unfolding CertificateFits CertificateProper progressGood
     block-good = good (R set w) (blockCertificate v x g) e p (λ k l h t. votes-truly w g v x (f .0) (f .1) (size set w) few s k l h t)
 
-    pub block-told : (r : List ℕ) → r ≡ certificateBytes j (byBlock v x g) → TakenAt set w v r
+    pub block-accepted : (r : List ℕ) → r ≡ certificateBytes j (byBlock v x g) → TakenAt set w v r
     unfolding safeCertificate CertificateProper
-    block-told r is =
+    block-accepted r is =
         let back : certificateOf r ≡ byBlock v x g = ap certificateOf is ∙ certificate-back j (byBlock v x g) low f in
         record {
           taken = record {
@@ -125,9 +125,9 @@ module _ (set : Settings) (w : World) (H : HighVoted (R set w)) (few : size set 
   unfolding encode Fits
   timeout-back t f = timeout-stands (timeoutBytes t) t (stands-encode (timeout t) f)
 
-  timeout-told : (j : ℕ) (t : Timeout) → TimeoutFits t → Told w j (timeoutBytes t) → w .TimedOut j (Safety.content t)
+  timeout-act : (j : ℕ) (t : Timeout) → TimeoutFits t → ActIn w j (timeoutBytes t) → w .TimedOut j (Safety.content t)
   unfolding encode Fits
-  timeout-told j t f z = told-as w j (timeout t) f z
+  timeout-act j t f z = act-of w j (timeout t) f z
 
   pub timeout-fine : (v : ℕ) (t : Timeout) → t .view .0 ≡ v → TimeoutFits t → TimeoutProper (size set w) t → timeoutGood set t ≡ true
       → Says w (timeoutSays (size set w) (timeoutBytes t)) → Fine held (R set w) v t
@@ -138,7 +138,7 @@ module _ (set : Settings) (w : World) (H : HighVoted (R set w)) (few : size set 
       fine (R set w) v t e of (p .signers)
       (λ k l h z. votes-truly w (t .carried .signers) (t .carried .view .0) (t .carried .name) (f .carried-view) (f .carried-name) (size set w) few
       (says-tail w (t .sender, timeoutBytes t) _ said) k l h z)
-      (λ l h. timeout-told (t .sender) t f (says-head w (t .sender, timeoutBytes t) _ said h))
+      (λ l h. timeout-act (t .sender) t f (says-head w (t .sender, timeoutBytes t) _ said h))
 
   -- ---- a timeout certificate that passes the tests
   all-fine : (v low : ℕ) (ts : List Timeout) → All TimeoutFits ts → TimeoutsProper (size set w) v low ts → All (λ t. timeoutGood set t ≡ true) ts
@@ -156,9 +156,9 @@ module _ (set : Settings) (w : World) (H : HighVoted (R set w)) (few : size set 
 
   module _ (j v : ℕ) (ts : List Timeout) (low : j < 2 ^ 16) (small : v < lastView) (f : CertificateFits (byTimeouts v ts)) (p : CertificateProper (size set w) (byTimeouts v ts))
       (e : progressGood set (byTimeouts v ts) ≡ true) (s : Says w (timeoutsSay (size set w) (slots (certificateBytes j (byTimeouts v ts))))) where
-    pub timeouts-told : (r : List ℕ) → r ≡ certificateBytes j (byTimeouts v ts) → TakenAt set w v r
+    pub timeouts-accepted : (r : List ℕ) → r ≡ certificateBytes j (byTimeouts v ts) → TakenAt set w v r
     unfolding CertificateFits CertificateProper progressGood
-    timeouts-told r is =
+    timeouts-accepted r is =
         let many = leb (timeoutQuorum set) (length ts) in
         let each = all (timeoutGood set) ts in
         let both = and-true many each (and-true (ltb 0 v) (many && each) e .1) in
@@ -168,8 +168,8 @@ module _ (set : Settings) (w : World) (H : HighVoted (R set w)) (few : size set 
         (leb-true (timeoutQuorum set) (length ts) (both .0)) r is
 
   -- A PROGRESS CERTIFICATE that passes the tests
-  pub certificate-told : (W : Work) (j : ℕ) (k : Certificate) → j < 2 ^ 16 → viewOfProgress k < lastView → CertificateFits k → CertificateProper (size set w) k → progressGood set k ≡ true
+  pub certificate-accepted : (W : Work) (j : ℕ) (k : Certificate) → j < 2 ^ 16 → viewOfProgress k < lastView → CertificateFits k → CertificateProper (size set w) k → progressGood set k ≡ true
       → (r : List ℕ) → r ≡ certificateBytes j k → Says w (certificateSays (size set w) r k) → TakenAt set w (viewOfProgress k) r
-  certificate-told W j (byBlock v x g) low small f p e r is s = block-told j v x g low small f p e s r is
-  certificate-told W j (byTimeouts v ts) low small f p e r is s =
-      timeouts-told j v ts low small f p e (subst (λ (b : List ℕ). Says w (timeoutsSay (size set w) (slots b))) is s) r is
+  certificate-accepted W j (byBlock v x g) low small f p e r is s = block-accepted j v x g low small f p e s r is
+  certificate-accepted W j (byTimeouts v ts) low small f p e r is s =
+      timeouts-accepted j v ts low small f p e (subst (λ (b : List ℕ). Says w (timeoutsSay (size set w) (slots b))) is s) r is

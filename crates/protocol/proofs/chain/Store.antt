@@ -26,7 +26,7 @@ use Rattle.safety.specs.Rows.{Upward, firsts, number}
 use Rattle.safety.proofs.Rows.{row-upward, number-append}
 use Rattle.wire.specs.Fit.{All}
 use Rattle.protocol.proofs.call.Typing.{all-append}
-use Rattle.protocol.proofs.chain.Invariant.{World, R, rowIn, ParentHeld, Stored, Named, Chained, placementOf}
+use Rattle.protocol.proofs.chain.Invariant.{History, R, rowIn, ParentHeld, Stored, Named, Chained, placementOf}
 
 -- ---- searching
 is-found : (f : Found) (c : Block) → f ≡ found c → f .is ≡ true
@@ -61,7 +61,7 @@ find-name store x c e =
     let i = find-in x store (is-found (find x store) c e) in
     subst (λ (d : Block). In d store × (d .name ≡ x)) (ap (λ (f : Found). f .block) e) i
 
-module _ (set : Settings) (w : World) where
+module _ (set : Settings) (w : History) where
   -- ---- a block is held
   module _ (l : List (List ℕ)) (tip : Block) (store : List Block) (C : Chained set w l tip store) (b : Block) (placed : w .Placed (placementOf b)) (le : b .height .0 ≤ lastHeight)
       (parent : ParentHeld set w tip store b) (new : held tip store (b .name) .is ≡ false) where
@@ -137,7 +137,7 @@ module _ (set : Settings) (w : World) where
 
   module _ (l : List (List ℕ)) (tip : Block) (store : List Block) (C : Chained set w l tip store) where
     -- from the tip upward to b, one higher each time
-    record Climb (b : Block) : Type 0 where
+    record FromTip (b : Block) : Type 0 where
       upward : Upward (R set w .Parent) zeroName (tip .name) (names (ancestry tip store b)) (b .name)
       numbered : pairs (ancestry tip store b) ≡ number (suc (tip .height .0)) (names (ancestry tip store b))
       height : b .height .0 ≡ tip .height .0 + length (ancestry tip store b)
@@ -157,11 +157,11 @@ module _ (set : Settings) (w : World) where
         rw (← d) (r .2))
         (C .stored b p .parent-held)
 
-    climb-step : (b : Block) → In b store → descends tip store b ≡ true
-        → (let c = held tip store (b .parent) .block in c .height .0 < b .height .0 → In c store → descends tip store c ≡ true → Climb c) → Climb b
-    climb-step b p d rest = go (onwardOf tip b (held tip store (b .parent)) .goes) refl
+    from-tip-step : (b : Block) → In b store → descends tip store b ≡ true
+        → (let c = held tip store (b .parent) .block in c .height .0 < b .height .0 → In c store → descends tip store c ≡ true → FromTip c) → FromTip b
+    from-tip-step b p d rest = go (onwardOf tip b (held tip store (b .parent)) .goes) refl
       where
-        go : (t : Bool) → onwardOf tip b (held tip store (b .parent)) .goes ≡ t → Climb b
+        go : (t : Bool) → onwardOf tip b (held tip store (b .parent)) .goes ≡ t → FromTip b
         go false e =
             let both = last-tests tip store (sameBytes (tip .name) (b .parent)) (below tip b) (sym (descends-off tip store b e) ∙ d) in
             let on-tip : b .parent ≡ tip .name = sym (same-eq (tip .name) (b .parent) (both .0)) in
@@ -187,9 +187,9 @@ module _ (set : Settings) (w : World) where
               height = rw (more, length-append) (omega (arith, up .height, high));
             }
 
-    climb : (k : ℕ) (b : Block) → b .height .0 ≤ k → In b store → descends tip store b ≡ true → Climb b
-    climb zero b h p d = climb-step b p d (λ l q e. absurd (omega (arith, l)))
-    climb (suc k) b h p d = climb-step b p d (λ l q e. climb k (held tip store (b .parent) .block) (omega (arith, l)) q e)
+    from-tip : (k : ℕ) (b : Block) → b .height .0 ≤ k → In b store → descends tip store b ≡ true → FromTip b
+    from-tip zero b h p d = from-tip-step b p d (λ l q e. absurd (omega (arith, l)))
+    from-tip (suc k) b h p d = from-tip-step b p d (λ l q e. from-tip k (held tip store (b .parent) .block) (omega (arith, l)) q e)
 
     -- ---- the block b is released: it is the tip, and what descends from it is kept
     module _ (b : Block) (p : In b store) (d : descends tip store b ≡ true) (v : ℕ) (direct : Direct (R set w) v (b .name))
@@ -197,8 +197,8 @@ module _ (set : Settings) (w : World) where
       abbrev rest : List Block
       rest = kept b store
 
-      up : Climb b
-      up = climb (b .height .0) b (omega arith) p d
+      up : FromTip b
+      up = from-tip (b .height .0) b (omega arith) p d
 
       firsts-pairs : (m : List Block) → firsts (pairs m) ≡ names m
       firsts-pairs [] = refl

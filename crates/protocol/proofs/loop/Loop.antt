@@ -10,19 +10,19 @@ use Rattle.protocol.specs.Work.{Work}
 use Rattle.protocol.specs.Rules.{settle}
 use Rattle.protocol.specs.Applies.{AppliesA, AppliesB, AppliesC, AppliesD, runA, runB, runC, runD, Done, Lowest, First, Turn, byA, byB, byC, byD, Turns, rest, turn}
 use Rattle.protocol.proofs.call.Regular.{Regular}
-use Rattle.protocol.proofs.loop.Turns.{Led, onward}
+use Rattle.protocol.proofs.loop.Turns.{Reaches, reaches-then}
 use Rattle.protocol.proofs.loop.RuleA.{phase-A}
 use Rattle.protocol.proofs.loop.RuleB.{phase-B}
 use Rattle.protocol.proofs.loop.RuleC.{phase-C}
 use Rattle.protocol.proofs.loop.RuleD.{AfterD, phase-D}
 
 -- ---- settle, turn by turn: A, then B, then C, then D, each phase where the one before ended
-settled : (W : Work) → Regular W → Led AfterD W (settle W)
+settled : (W : Work) → Regular W → Reaches AfterD W (settle W)
 unfolding settle
 settled W R =
-    onward (phase-A W R)
-    (λ a. onward (phase-B _ (a .regular) (a .noA))
-    (λ b. onward (phase-C _ (b .regular) (b .noA) (b .noB))
+    reaches-then (phase-A W R)
+    (λ a. reaches-then (phase-B _ (a .regular) (a .noA))
+    (λ b. reaches-then (phase-C _ (b .regular) (b .noA) (b .noB))
     (λ c. phase-D _ _ c (omega arith))))
 
 -- every step is the first rule that applied
@@ -85,12 +85,12 @@ ends U E d rest = refl
 ends U E d (turn {W₁ = A} a t) = absurd (done-stays U A d a)
 
 -- whatever turns are made, the loop goes on to `settle W`
-pub loop-goes-on : (W U : Work) → Regular W → Turns W U → Turns U (settle W)
-loop-goes-on W U R t = continued W U (settle W) (settle-is-the-loop W R) (settle-done W R) t
+pub loop-continues : (W U : Work) → Regular W → Turns W U → Turns U (settle W)
+loop-continues W U R t = continued W U (settle W) (settle-is-the-loop W R) (settle-done W R) t
 
 -- and it ends there and nowhere else
 pub loop-ends : (W U : Work) → Regular W → Turns W U → Done U → U ≡ settle W
-loop-ends W U R t d = ends U (settle W) d (loop-goes-on W U R t)
+loop-ends W U R t d = ends U (settle W) d (loop-continues W U R t)
 
 -- no run goes on for ever
 endless : (W E : Work) → Turns W E → Done E → (run : ℕ → Work) → run 0 ≡ W → ((i : ℕ) → Turn (run i) (run (suc i))) → ⊥

@@ -15,7 +15,7 @@ use Rattle.protocol.proofs.call.Regular.{Regular}
 use Rattle.protocol.proofs.call.Actions.{timeout-regular}
 use Rattle.protocol.proofs.loop.Advance.{timeout-window, in-timeouts}
 use Rattle.protocol.proofs.Branch.{by-cases}
-use Rattle.protocol.proofs.loop.Turns.{Led, each-led}
+use Rattle.protocol.proofs.loop.Turns.{Reaches, each-reaches}
 
 -- the test of rule A at a view of the window is when it applies
 module _ (w : ℕ) (W : Work) where
@@ -48,11 +48,11 @@ unfolding sendTimeout timing
 view-now w W = refl
 
 -- sending a timeout for w: A applies no more at w or below
-step-A : (v w : ℕ) (W : Work) → w ≤ highest v → BelowA v w W → Led (BelowA v (suc w)) W (ruleA w W)
+step-A : (v w : ℕ) (W : Work) → w ≤ highest v → BelowA v w W → Reaches (BelowA v (suc w)) W (ruleA w W)
 unfolding ruleA
-step-A v w W h D = by-cases (Led (BelowA v (suc w)) W) (testA w W) (sendTimeout w W) W sent stays
+step-A v w W h D = by-cases (Reaches (BelowA v (suc w)) W) (testA w W) (sendTimeout w W) W sent stays
   where
-    sent : testA w W ≡ true → Led (BelowA v (suc w)) W (sendTimeout w W)
+    sent : testA w W ≡ true → Reaches (BelowA v (suc w)) W (sendTimeout w W)
     sent t = record {
       by = turn (byA w (record { here = applies-A w W (omega (arith, D .view-is)) t; noLower = D .none-below })) rest;
       so = record {
@@ -62,7 +62,7 @@ step-A v w W h D = by-cases (Led (BelowA v (suc w)) W) (testA w W) (sendTimeout 
       };
     }
 
-    stays : testA w W ≡ false → Led (BelowA v (suc w)) W W
+    stays : testA w W ≡ false → Reaches (BelowA v (suc w)) W W
     stays t = record {
       by = rest;
       so = record {
@@ -77,11 +77,11 @@ pub record AfterA (W : Work) : Type 0 where
   pub regular : Regular W
   pub noA : NoA W
 
-pub phase-A : (W : Work) → Regular W → Led AfterA W (each ruleA (viewNow W) (timeoutViews W) W)
+pub phase-A : (W : Work) → Regular W → Reaches AfterA W (each ruleA (viewNow W) (timeoutViews W) W)
 phase-A W R =
     let v = viewNow W in
     let k = timeoutViews W in
-    let r = each-led (BelowA v) ruleA v (v + k) (λ w X lo hi D. step-A v w X (omega arith) D) k v W (omega arith) refl
+    let r = each-reaches (BelowA v) ruleA v (v + k) (λ w X lo hi D. step-A v w X (omega arith) D) k v W (omega arith) refl
     (record { regular = R; view-is = refl; none-below = λ u l a. omega (arith, timeout-window v u (a .window) .from) }) in
     let D = r .so in
     record {

@@ -23,7 +23,7 @@ use Rattle.protocol.proofs.call.Rules.{B-regular}
 use Rattle.protocol.proofs.loop.Formed.{formed-read, formed-fits, length-sender}
 use Rattle.protocol.proofs.loop.Advance.{timeout-window, in-timeouts, Advanced, advanced-enter, A-before, B-before}
 use Rattle.protocol.proofs.Branch.{by-cases}
-use Rattle.protocol.proofs.loop.Turns.{Led, each-led}
+use Rattle.protocol.proofs.loop.Turns.{Reaches, each-reaches}
 
 -- "Timeout certificate of view w ≥ view: adopt its safe certificate, send it to the next leader, enter w+1."
 pub progress-timeouts : (W : Work) (r : List ℕ) (v : ℕ) (ts : List Timeout) → certificateOf r ≡ byTimeouts v ts → viewNow W ≤ v
@@ -75,11 +75,11 @@ record BelowB (v w : ℕ) (W : Work) : Type 0 where
   none-below : (u : ℕ) → u < w → AppliesB u W → ⊥
 
 -- forming the certificate of w: the view is w + 1
-step-B : (v w : ℕ) (W : Work) → w ≤ highest v → BelowB v w W → Led (BelowB v (suc w)) W (ruleB w W)
+step-B : (v w : ℕ) (W : Work) → w ≤ highest v → BelowB v w W → Reaches (BelowB v (suc w)) W (ruleB w W)
 unfolding ruleB
-step-B v w W h D = by-cases (Led (BelowB v (suc w)) W) (testB w W) (runB w W) W runs stays
+step-B v w W h D = by-cases (Reaches (BelowB v (suc w)) W) (testB w W) (runB w W) W runs stays
   where
-    runs : testB w W ≡ true → Led (BelowB v (suc w)) W (runB w W)
+    runs : testB w W ≡ true → Reaches (BelowB v (suc w)) W (runB w W)
     runs t =
         let a = applies-B w W (omega (arith, D .from)) t in
         let i = timeout-window (viewNow W) w (a .window) in
@@ -96,7 +96,7 @@ step-B v w W h D = by-cases (Led (BelowB v (suc w)) W) (testB w W) (runB w W) W 
           };
         }
 
-    stays : testB w W ≡ false → Led (BelowB v (suc w)) W W
+    stays : testB w W ≡ false → Reaches (BelowB v (suc w)) W W
     stays t = record {
       by = rest;
       so = record {
@@ -114,11 +114,11 @@ pub record AfterB (W : Work) : Type 0 where
   pub noA : NoA W
   pub noB : NoB W
 
-pub phase-B : (W : Work) → Regular W → NoA W → Led AfterB W (each ruleB (viewNow W) (timeoutViews W) W)
+pub phase-B : (W : Work) → Regular W → NoA W → Reaches AfterB W (each ruleB (viewNow W) (timeoutViews W) W)
 phase-B W R N =
     let v = viewNow W in
     let k = timeoutViews W in
-    let r = each-led (BelowB v) ruleB v (v + k) (λ w X lo hi D. step-B v w X (omega arith) D) k v W (omega arith) refl
+    let r = each-reaches (BelowB v) ruleB v (v + k) (λ w X lo hi D. step-B v w X (omega arith) D) k v W (omega arith) refl
     (record {
       regular = R;
       noA = N;

@@ -34,7 +34,7 @@ use Rattle.protocol.proofs.loop.Backed.{backed-entry, entry-name}
 use Rattle.protocol.proofs.loop.Advance.{ballot-window, in-ballots, Advanced, votes-before, A-before, B-before}
 use Rattle.protocol.proofs.loop.Lock.{lockOf, Locked, locked-block}
 use Rattle.protocol.proofs.Branch.{by-cases}
-use Rattle.protocol.proofs.loop.Turns.{Led, each-led}
+use Rattle.protocol.proofs.loop.Turns.{Reaches, each-reaches}
 
 -- ---- rank: it does not depend on the signers, the smaller name of a view ranks above, and what ranks above is of a view at least as high
 signers-aside : (v : ℕ) (x : List ℕ) (g h : ℕ) (k : Certificate) → outranks (blockCertificate v x g) k ≡ outranks (blockCertificate v x h) k
@@ -134,14 +134,14 @@ record BelowC (v w : ℕ) (W : Work) : Type 0 where
   none-below : (u : ℕ) (y : List ℕ) → u < w → AppliesC u y W → ⊥
 
 -- forming the certificate of w and x: the lock is of w and x, and C applies no more at w or below
-step-C : (v w : ℕ) (W : Work) → lowest v ≤ w → w ≤ highest v → BelowC v w W → Led (BelowC v (suc w)) W (ruleC w W)
+step-C : (v w : ℕ) (W : Work) → lowest v ≤ w → w ≤ highest v → BelowC v w W → Reaches (BelowC v (suc w)) W (ruleC w W)
 unfolding ruleC
-step-C v w W lo hi D = by-cases (Led (BelowC v (suc w)) W) (testC w W) (runC w x W) W runs stays
+step-C v w W lo hi D = by-cases (Reaches (BelowC v (suc w)) W) (testC w W) (runC w x W) W runs stays
   where
     x : List ℕ
     x = theName w W .name
 
-    runs : testC w W ≡ true → Led (BelowC v (suc w)) W (runC w x W)
+    runs : testC w W ≡ true → Reaches (BelowC v (suc w)) W (runC w x W)
     runs t =
         let R = D .regular in
         let a = applies-C w W (omega (arith, lo, D .view-to)) (omega (arith, hi, D .from)) t in
@@ -174,7 +174,7 @@ step-C v w W lo hi D = by-cases (Led (BelowC v (suc w)) W) (testC w W) (runC w x
           };
         }
 
-    stays : testC w W ≡ false → Led (BelowC v (suc w)) W W
+    stays : testC w W ≡ false → Reaches (BelowC v (suc w)) W W
     stays t = record {
       by = rest;
       so = record {
@@ -195,11 +195,11 @@ pub record AfterC (W : Work) : Type 0 where
   pub noB : NoB W
   pub noC : NoC W
 
-pub phase-C : (W : Work) → Regular W → NoA W → NoB W → Led AfterC W (each ruleC (lowest (viewNow W)) (ballotViews W) W)
+pub phase-C : (W : Work) → Regular W → NoA W → NoB W → Reaches AfterC W (each ruleC (lowest (viewNow W)) (ballotViews W) W)
 phase-C W R N M =
     let v = viewNow W in
     let k = ballotViews W in
-    let r = each-led (BelowC v) ruleC (lowest v) (lowest v + k) (λ w X lo hi D. step-C v w X lo (omega arith) D) k (lowest v) W (omega arith) refl
+    let r = each-reaches (BelowC v) ruleC (lowest v) (lowest v + k) (λ w X lo hi D. step-C v w X lo (omega arith) D) k (lowest v) W (omega arith) refl
     (record {
       regular = R;
       noA = N;

@@ -27,7 +27,7 @@ use Rattle.protocol.proofs.call.Regular.{Regular}
 use Rattle.protocol.proofs.call.Rules.{D-regular}
 use Rattle.protocol.proofs.loop.Advance.{ballot-window, in-ballots, Advanced, A-before, B-before}
 use Rattle.protocol.proofs.loop.Lock.{lockOf}
-use Rattle.protocol.proofs.loop.Turns.{Led}
+use Rattle.protocol.proofs.loop.Turns.{Reaches}
 use Rattle.protocol.proofs.loop.RuleC.{C-before, AfterC}
 use Rattle.protocol.proofs.loop.Releasable.{Good, theRelease, release-good, release-least, release-none}
 
@@ -172,13 +172,13 @@ released W C e =
       noC = λ u y a. C .noC u y (C-before W W′ R S (λ c o. ap (outranks c) (sym (lock-D w b W)) ∙ o) u y a);
     }
 
-again-D : (k : ℕ) (W : Work) → AfterC W → (length (blocks W) ≤ k) ⊎ NoD W → Led AfterD W (again k W)
+again-D : (k : ℕ) (W : Work) → AfterC W → (length (blocks W) ≤ k) ⊎ NoD W → Reaches AfterD W (again k W)
 unfolding again ruleD
 again-D zero W C m = record { by = rest; so = finished W C (⊎-elim (empty-D W) (λ N. N) m) }
 again-D (suc k) W C m = go (thePair W .name .some) refl (λ X. again-D k X)
   where
-    go : (t : Bool) → thePair W .name .some ≡ t → ((X : Work) → AfterC X → (length (blocks X) ≤ k) ⊎ NoD X → Led AfterD X (again k X))
-        → Led AfterD W (again k (cond t (runD (thePair W .at) (thePair W .name .name) W) W))
+    go : (t : Bool) → thePair W .name .some ≡ t → ((X : Work) → AfterC X → (length (blocks X) ≤ k) ⊎ NoD X → Reaches AfterD X (again k X))
+        → Reaches AfterD W (again k (cond t (runD (thePair W .at) (thePair W .name .name) W) W))
     go false e f = f W C (inr (none-D W e))
     go true e f =
         let w = thePair W .at in
@@ -188,5 +188,5 @@ again-D (suc k) W C m = go (thePair W .name .some) refl (λ X. again-D k X)
         let r = f (runD w x W) (released W C e) (inl (⊎-elim (λ l. omega arith) (λ N. absurd (N w x (F .here))) m)) in
         record { by = turn (byD w x (C .noA) (C .noB) (C .noC) F) (r .by); so = r .so }
 
-pub phase-D : (k : ℕ) (W : Work) → AfterC W → length (blocks W) ≤ k → Led AfterD W (again k W)
+pub phase-D : (k : ℕ) (W : Work) → AfterC W → length (blocks W) ≤ k → Reaches AfterD W (again k W)
 phase-D k W C h = again-D k W C (inl h)
