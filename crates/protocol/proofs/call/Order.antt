@@ -1,12 +1,11 @@
 -- The refusals of each call stand in 01's order: "Refusals, by place, in this order". Of each call the whole list is taken, as Calls.antt has it. Assumes nothing.
 use Prim.Native.Nat.{ℕ}
 use mathlib.Core.Path.{_≡_, refl}
-use mathlib.Core.Bool.{Bool, true, false, cond}
+use mathlib.Core.Bool.{true, cond}
 use mathlib.Core.List.{List}
 use borrow.Author.Tests.{eqb-true}
 use lib.Dec.{eqb}
 use Rattle.settings.specs.declared.Settings.{Settings}
-use Rattle.settings.specs.Answer.{Rule}
 use Rattle.settings.specs.Opening.{openingRules}
 use Rattle.wire.specs.Fields.{kindOf, senderOf}
 use Rattle.wire.specs.Content.{Certificate, byBlock, byTimeouts, certificateOf, Content, certificate, content}
@@ -29,7 +28,7 @@ pub propose-in-order : (r : Replica) (room : ℕ) (x : List ℕ) → InOrder pro
 unfolding place inOrder regionRules proposeRules
 propose-in-order r room x = refl
 
--- a record of any kind but 9
+-- a record of any kind but 9, whatever else its bytes are
 pub record-in-order : (r : Replica) (room : ℕ) (bytes : List ℕ) → (kindOf bytes ≡ 9 → ⊥) → InOrder recordOrder (recordRefusals r room bytes)
 unfolding place inOrder regionRules refusals content
 record-in-order r room bytes other =

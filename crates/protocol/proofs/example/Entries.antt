@@ -1,4 +1,4 @@
--- The eleven calls of the run of specs/Example.antt, one after another: each is accepted, and what it leaves, makes, says of others and gives a name.
+-- The eleven calls of the run of specs/Example.antt, one after another: each is accepted, and what it leaves, makes, says of others and which placements it gives.
 -- Assumes nothing.
 use Prim.Native.Nat.{ℕ, zero, suc, _≤_, _<_}
 use native.Mathlib.Omega.{arith}
