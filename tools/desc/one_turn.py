@@ -29,7 +29,7 @@
         'Rattle.release.specs.Search': ['standing', 'knownBy', 'noTarget', 'lowestTarget'],
         'Rattle.release.specs.Released': ['ReleasedIf', 'allowedOf', 'nextTurn', 'draftAt', 'Turned'],
         'Rattle.release.proofs.Types': ['Target-block'],
-        'Rattle.release.proofs.Telling': ['proper'],
+        'Rattle.release.proofs.WrittenTip': ['proper'],
         'Rattle.release.proofs.Turning': ['search-asks', 'if-asks', 'turn-asks', 'turn-is'],
     },
 }

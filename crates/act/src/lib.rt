@@ -22,6 +22,7 @@ use wire::length;
 use wire::write::put_timeout;
 use wire::write::put_vote;
 ghost use mathlib.Core.Path.{_≡_};
+ghost use Rattle.wire.specs.Fields.{voteLength, timeoutLength};
 ghost use Rattle.protocol.specs.Work.{sendVote, sendCommit, sendTimeout};
 ghost use Rattle.act.specs.Draft.{Does, Ready, carriedBy, timeoutBy};
 
@@ -33,7 +34,7 @@ pub struct Draft {
 
 // A vote is written, kept, and made the high vote.
 pub fn send_vote(mem: &mut [u8], out: &mut [u8], d: Draft, view: View, name: [u8; 32]) -> Draft
-    requires { ⌜ Ready d (now mem) (now out) 48 ⌝ }
+    requires { ⌜ Ready d (now mem) (now out) voteLength ⌝ }
     ensures { λ r. ⌜ Does (sendVote (view .0) name) d (now (mem .entry)) (now (out .entry)) r (now (mem .exit)) (now (out .exit)) ⌝ }
 {
     let me = own(mem);
@@ -49,7 +50,7 @@ pub fn send_vote(mem: &mut [u8], out: &mut [u8], d: Draft, view: View, name: [u8
 }
 
 pub fn send_commit(mem: &mut [u8], out: &mut [u8], d: Draft, view: View, name: [u8; 32]) -> Draft
-    requires { ⌜ Ready d (now mem) (now out) 48 ⌝ }
+    requires { ⌜ Ready d (now mem) (now out) voteLength ⌝ }
     ensures { λ r. ⌜ Does (sendCommit (view .0) name) d (now (mem .entry)) (now (out .entry)) r (now (mem .exit)) (now (out .exit)) ⌝ }
 {
     let me = own(mem);
@@ -102,7 +103,7 @@ fn own_timeout(c: Counters, me: u16, view: View) -> Timeout
 
 // A timeout is written and kept, and the view is timed.
 pub fn send_timeout(mem: &mut [u8], out: &mut [u8], d: Draft, view: View) -> Draft
-    requires { ⌜ Ready d (now mem) (now out) 112 ⌝ }
+    requires { ⌜ Ready d (now mem) (now out) timeoutLength ⌝ }
     ensures { λ r. ⌜ Does (sendTimeout (view .0)) d (now (mem .entry)) (now (out .entry)) r (now (mem .exit)) (now (out .exit)) ⌝ }
 {
     let me = own(mem);

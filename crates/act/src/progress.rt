@@ -23,6 +23,7 @@ ghost use Rattle.settings.specs.Quorum.{largest, replicas};
 ghost use Rattle.codec.specs.Bytes.{part};
 ghost use Rattle.wire.specs.declared.Progress.the-variants.{Block};
 ghost use Rattle.wire.specs.Content.{certificateOf, progressMeans, Within};
+ghost use Rattle.wire.specs.Fields.{voteLength};
 ghost use Rattle.certificate.specs.Safe.{safeCertificate};
 ghost use Rattle.memory.specs.Layout.{memoryLength, settingsOf};
 ghost use Rattle.counters.specs.Counters.{adopting};
@@ -58,7 +59,7 @@ fn advance(mem: &mut [u8], out: &[u8], d: Draft, size: usize) -> Draft
 
 // Behind a block certificate that stands in the output: a commit for its view and name, unless that view is timed.
 fn commit_after(mem: &mut [u8], out: &mut [u8], d: Draft, b: BlockCertificate) -> Draft
-    requires { ⌜ Ready d (now mem) (now out) 48 × Within (now out) (Block b) ⌝ }
+    requires { ⌜ Ready d (now mem) (now out) voteLength × Within (now out) (Block b) ⌝ }
     ensures { λ r. ⌜ Does (commitAfter (progressMeans (now (out .entry)) (Block b))) d (now (mem .entry)) (now (out .entry)) r (now (mem .exit)) (now (out .exit)) ⌝ }
 {
     let c = d.counters;

@@ -12,6 +12,7 @@ ghost use lib.Seq.{sets};
 ghost use Rattle.codec.specs.Bytes.{patch};
 ghost use Rattle.codec.specs.Names.{sameBytes};
 ghost use Rattle.wire.specs.Encode.{releaseBytes};
+ghost use Rattle.wire.specs.Fields.{releaseLength};
 ghost use Rattle.blocks.specs.Steps.{onwardOf, noVerdicts, verdictOf, notedOf, shortened, Noted, keptFrom, spotOf, placeOf};
 ghost use Rattle.blocks.specs.Store.{genesis, found, missing, find, held, descends, ancestry, releases, kept, dropped};
 use certificate::safe::signs;
@@ -294,8 +295,8 @@ fn judged(store: &[Block], count: usize, tip: Block, b: Block, i: usize, v: Verd
 
 // The release of one block, and the place behind it.
 fn put_one(out: &mut [u8], at: usize, sender: u16, view: View, b: Block) -> usize
-    requires { ⌜ at + 56 ≤ length (now out) ⌝ }
-    ensures { λ r. ⌜ (r ≡ at + 56) × (now (out .exit) ≡ patch (now (out .entry)) at (releaseBytes sender (view .0) (b .name) (b .height .0))) ⌝ }
+    requires { ⌜ at + releaseLength ≤ length (now out) ⌝ }
+    ensures { λ r. ⌜ (r ≡ at + releaseLength) × (now (out .exit) ≡ patch (now (out .entry)) at (releaseBytes sender (view .0) (b .name) (b .height .0))) ⌝ }
 {
     let name = b.name;
     let height = b.height;
@@ -314,9 +315,9 @@ fn put_line(
     out: &mut [u8],
     at: usize,
 ) -> usize
-    requires { ⌜ (descends tip (take count (now store)) b ≡ true) × (at + 56 * length (ancestry tip (take count (now store)) b) ≤ length (now out)) ⌝ }
-    ensures { λ r. ⌜ (r ≡ at + 56 * length (ancestry tip (take count (now (store .entry))) b))
-        × ((length (releases sender (view .0) (ancestry tip (take count (now (store .entry))) b)) ≡ 56 * length (ancestry tip (take count (now (store .entry))) b))
+    requires { ⌜ (descends tip (take count (now store)) b ≡ true) × (at + releaseLength * length (ancestry tip (take count (now store)) b) ≤ length (now out)) ⌝ }
+    ensures { λ r. ⌜ (r ≡ at + releaseLength * length (ancestry tip (take count (now (store .entry))) b))
+        × ((length (releases sender (view .0) (ancestry tip (take count (now (store .entry))) b)) ≡ releaseLength * length (ancestry tip (take count (now (store .entry))) b))
         × (now (out .exit) ≡ patch (now (out .entry)) at (releases sender (view .0) (ancestry tip (take count (now (store .entry))) b)))) ⌝ }
 {
     let p = b.parent;
@@ -341,9 +342,9 @@ pub fn release(
     out: &mut [u8],
     at: usize,
 ) -> usize
-    requires { ⌜ (descends tip (take count (now store)) b ≡ true) × (at + 56 * length (ancestry tip (take count (now store)) b) ≤ length (now out)) ⌝ }
-    ensures { λ r. ⌜ (r ≡ at + 56 * length (ancestry tip (take count (now (store .entry))) b))
-        × ((length (releases sender (view .0) (ancestry tip (take count (now (store .entry))) b)) ≡ 56 * length (ancestry tip (take count (now (store .entry))) b))
+    requires { ⌜ (descends tip (take count (now store)) b ≡ true) × (at + releaseLength * length (ancestry tip (take count (now store)) b) ≤ length (now out)) ⌝ }
+    ensures { λ r. ⌜ (r ≡ at + releaseLength * length (ancestry tip (take count (now (store .entry))) b))
+        × ((length (releases sender (view .0) (ancestry tip (take count (now (store .entry))) b)) ≡ releaseLength * length (ancestry tip (take count (now (store .entry))) b))
         × (now (out .exit) ≡ patch (now (out .entry)) at (releases sender (view .0) (ancestry tip (take count (now (store .entry))) b)))) ⌝ }
 {
     put_line(store, count, tip, b, sender, view, out, at)

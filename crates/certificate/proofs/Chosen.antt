@@ -25,7 +25,7 @@ use Rattle.certificate.proofs.Order.{outranks-irrefl, outranks-total}
 abbrev pub Under : Certificate → Certificate → Type 0
 Under b a = (outranks b a ≡ true) ⊎ (a ≡ b)
 
--- ---- timeouts that offer a certificate each, if they pass a test: the better of it and what was there
+-- ---- timeouts that give a certificate each, if they pass a test: the better of it and what was there
 module _ (test : Timeout → Bool) (make : Timeout → Certificate) where
   abbrev offers : Timeout → Certificate → Certificate
   offers t k = cond (test t) (better (make t) k) k

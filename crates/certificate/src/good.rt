@@ -14,13 +14,13 @@ ghost use mathlib.Core.List.{map};
 ghost use Prim.Native.Nat.{_+_, _*_, _≤_};
 ghost use lib.ListN.{length, drop};
 ghost use Rattle.wire.specs.declared.Progress.the-variants.{Block, Timeouts};
-ghost use Rattle.wire.specs.Fields.{nameOf, cut};
+ghost use Rattle.wire.specs.Fields.{nameOf, cut, timeoutLength, timeoutsHead};
 ghost use Rattle.wire.specs.Content.{timeoutOf, progressMeans, Within};
 ghost use Rattle.certificate.specs.Rank.{blockCertificate};
 ghost use Rattle.certificate.specs.Good.{timeoutGood, all, progressGood};
 
 pub fn timeout_good(rec: &[u8], settings: Settings) -> bool
-    requires { ⌜ 112 ≤ length (now rec) ⌝ }
+    requires { ⌜ timeoutLength ≤ length (now rec) ⌝ }
     ensures { λ r. ⌜ r ≡ timeoutGood settings (timeoutOf (now (rec .entry))) ⌝ }
 {
     let t = timeout(rec);
@@ -36,8 +36,8 @@ pub fn timeout_good(rec: &[u8], settings: Settings) -> bool
 }
 
 fn all_good(rec: &[u8], count: usize, settings: Settings) -> bool
-    requires { ⌜ 24 + 112 * count ≤ length (now rec) ⌝ }
-    ensures { λ r. ⌜ r ≡ all (timeoutGood settings) (map timeoutOf (cut count (drop 24 (now (rec .entry))))) ⌝ }
+    requires { ⌜ timeoutsHead + timeoutLength * count ≤ length (now rec) ⌝ }
+    ensures { λ r. ⌜ r ≡ all (timeoutGood settings) (map timeoutOf (cut count (drop timeoutsHead (now (rec .entry))))) ⌝ }
 {
     let mut i = 0;
     while i < count {

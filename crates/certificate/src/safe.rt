@@ -16,7 +16,7 @@ ghost use mathlib.Core.List.{map};
 ghost use Prim.Native.Nat.{_+_, _*_, _-_, _≤_, _<_, _^_};
 ghost use lib.ListN.{length, drop};
 ghost use Rattle.settings.specs.Quorum.{largest, replicas};
-ghost use Rattle.wire.specs.Fields.{cut};
+ghost use Rattle.wire.specs.Fields.{cut, timeoutLength, timeoutsHead};
 ghost use Rattle.wire.specs.Content.{timeoutOf, progressMeans, Within};
 ghost use Rattle.certificate.specs.Safe.{signs, joins, gives, backedBy, backing, better, each, carriedBy, builtBy, safeOfTimeouts, safeCertificate};
 
@@ -44,7 +44,7 @@ fn joins(n: u64, i: u64, signers: u64) -> u64
 }
 
 fn gives(rec: &[u8], high: Vote) -> bool
-    requires { ⌜ 112 ≤ length (now rec) ⌝ }
+    requires { ⌜ timeoutLength ≤ length (now rec) ⌝ }
     ensures { λ r. ⌜ r ≡ gives (high .view .0) (high .name) (timeoutOf (now (rec .entry))) ⌝ }
 {
     let given = vote(rec, 16);
@@ -64,7 +64,7 @@ pub struct Backing {
 
 // One timeout more.
 fn backed_by(n: u64, rec: &[u8], high: Vote, b: Backing) -> Backing
-    requires { ⌜ (n ≤ largest) × ((112 ≤ length (now rec)) × (b .count < 2 ^ 62)) ⌝ }
+    requires { ⌜ (n ≤ largest) × ((timeoutLength ≤ length (now rec)) × (b .count < 2 ^ 62)) ⌝ }
     ensures { λ r. ⌜ r ≡ backedBy n (high .view .0) (high .name) (timeoutOf (now (rec .entry))) b ⌝ }
 {
     if gives(rec, high) {
@@ -77,8 +77,8 @@ fn backed_by(n: u64, rec: &[u8], high: Vote, b: Backing) -> Backing
 }
 
 fn count_backing(n: u64, rec: &[u8], count: usize, high: Vote) -> Backing
-    requires { ⌜ (n ≤ largest) × ((24 + 112 * count ≤ length (now rec)) × (count < 2 ^ 62)) ⌝ }
-    ensures { λ r. ⌜ r ≡ backing n (high .view .0) (high .name) (map timeoutOf (cut count (drop 24 (now (rec .entry))))) ⌝ }
+    requires { ⌜ (n ≤ largest) × ((timeoutsHead + timeoutLength * count ≤ length (now rec)) × (count < 2 ^ 62)) ⌝ }
+    ensures { λ r. ⌜ r ≡ backing n (high .view .0) (high .name) (map timeoutOf (cut count (drop timeoutsHead (now (rec .entry))))) ⌝ }
 {
     let mut b = Backing {
         count: 0,
@@ -104,8 +104,8 @@ fn better(later: Certificate, k: Certificate) -> Certificate
 
 // The highest of k and the certificates carried in the timeouts from timeout i on.
 fn carried_best(rec: &[u8], count: usize, from: usize, k: Certificate) -> Certificate
-    requires { ⌜ (24 + 112 * count ≤ length (now rec)) × (from ≤ count) ⌝ }
-    ensures { λ r. ⌜ r ≡ each carriedBy k (map timeoutOf (cut (count - from) (drop (24 + 112 * from) (now (rec .entry))))) ⌝ }
+    requires { ⌜ (timeoutsHead + timeoutLength * count ≤ length (now rec)) × (from ≤ count) ⌝ }
+    ensures { λ r. ⌜ r ≡ each carriedBy k (map timeoutOf (cut (count - from) (drop (timeoutsHead + timeoutLength * from) (now (rec .entry))))) ⌝ }
 {
     let mut best = k;
     let mut i = from;
@@ -127,8 +127,8 @@ fn built_by(
     settings: Settings,
     k: Certificate,
 ) -> Certificate
-    requires { ⌜ (replicas settings ≤ largest) × ((24 + 112 * count ≤ length (now rec)) × ((count < 2 ^ 62) × (112 ≤ length (now slot)))) ⌝ }
-    ensures { λ r. ⌜ r ≡ builtBy settings (map timeoutOf (cut count (drop 24 (now (rec .entry))))) (timeoutOf (now (slot .entry))) k ⌝ }
+    requires { ⌜ (replicas settings ≤ largest) × ((timeoutsHead + timeoutLength * count ≤ length (now rec)) × ((count < 2 ^ 62) × (timeoutLength ≤ length (now slot)))) ⌝ }
+    ensures { λ r. ⌜ r ≡ builtBy settings (map timeoutOf (cut count (drop timeoutsHead (now (rec .entry))))) (timeoutOf (now (slot .entry))) k ⌝ }
 {
     let high = vote(slot, 16);
     let view = high.view;
@@ -162,8 +162,8 @@ fn built_by(
 }
 
 fn built_best(rec: &[u8], count: usize, settings: Settings, k: Certificate) -> Certificate
-    requires { ⌜ (replicas settings ≤ largest) × ((24 + 112 * count ≤ length (now rec)) × (count < 2 ^ 62)) ⌝ }
-    ensures { λ r. ⌜ r ≡ each (builtBy settings (map timeoutOf (cut count (drop 24 (now (rec .entry)))))) k (map timeoutOf (cut count (drop 24 (now (rec .entry))))) ⌝ }
+    requires { ⌜ (replicas settings ≤ largest) × ((timeoutsHead + timeoutLength * count ≤ length (now rec)) × (count < 2 ^ 62)) ⌝ }
+    ensures { λ r. ⌜ r ≡ each (builtBy settings (map timeoutOf (cut count (drop timeoutsHead (now (rec .entry)))))) k (map timeoutOf (cut count (drop timeoutsHead (now (rec .entry))))) ⌝ }
 {
     let mut best = k;
     let mut i = 0;
@@ -177,8 +177,8 @@ fn built_best(rec: &[u8], count: usize, settings: Settings, k: Certificate) -> C
 
 // The safe certificate of the timeouts of a record of kind 6.
 fn safe_of_timeouts(rec: &[u8], count: usize, settings: Settings) -> Certificate
-    requires { ⌜ (replicas settings ≤ largest) × ((24 + 112 * count ≤ length (now rec)) × (count < 2 ^ 62)) ⌝ }
-    ensures { λ r. ⌜ r ≡ safeOfTimeouts settings (map timeoutOf (cut count (drop 24 (now (rec .entry))))) ⌝ }
+    requires { ⌜ (replicas settings ≤ largest) × ((timeoutsHead + timeoutLength * count ≤ length (now rec)) × (count < 2 ^ 62)) ⌝ }
+    ensures { λ r. ⌜ r ≡ safeOfTimeouts settings (map timeoutOf (cut count (drop timeoutsHead (now (rec .entry))))) ⌝ }
 {
     if count == 0 {
         return Certificate {

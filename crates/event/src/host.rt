@@ -35,6 +35,7 @@ ghost use Rattle.settings.specs.Quorum.{largest, lastHeight, replicas};
 ghost use Rattle.codec.specs.Bytes.{patch};
 ghost use Rattle.codec.specs.Names.{zeroName};
 ghost use Rattle.wire.specs.Encode.{blockCertificateBytes};
+ghost use Rattle.wire.specs.Fields.{voteLength, timeoutLength, proposalHead};
 ghost use Rattle.memory.specs.Layout.{memoryLength, entryRoom, settingsOf, blockCountOf, entryOf};
 ghost use Rattle.protocol.specs.Refusals.{storeLength};
 ghost use Rattle.protocol.specs.Events.{onTimer, onPropose};
@@ -45,7 +46,7 @@ ghost use Rattle.event.specs.Event.{Gives, Always, safeOfEntry, ownPropo
 
 // The timer of a view.
 pub fn on_timer(mem: &mut [u8], out: &mut [u8], d: Draft, view: View) -> Event
-    requires { ⌜ Ready d (now mem) (now out) 112 ⌝ }
+    requires { ⌜ Ready d (now mem) (now out) timeoutLength ⌝ }
     ensures { λ r. ⌜ Gives (onTimer (view .0)) Always d (now (mem .entry)) (now (out .entry)) r (now (mem .exit)) (now (out .exit)) ⌝ }
 {
     no_block(send_timeout(mem, out, d, view))
@@ -62,8 +63,8 @@ fn safe_of_entry(mem: &[u8]) -> Certificate
 
 // The proposal of a child, with the entry certificate, is written behind what is written; the place after it.
 fn put_own_proposal(mem: &[u8], out: &mut [u8], d: Draft, child: Child) -> usize
-    requires { ⌜ (memoryLength ≤ length (now mem)) × ((length (entryOf (now mem)) ≤ entryRoom) × (d .at + (88 + entryRoom) ≤ length (now out))) ⌝ }
-    ensures { λ r. ⌜ (r ≡ d .at + (88 + length (entryOf (now (mem .entry))))) × (now (out .exit) ≡ patch (now (out .entry)) (d .at) (ownProposalBytes (now (mem .entry)) (d .counters .view .0) child)) ⌝ }
+    requires { ⌜ (memoryLength ≤ length (now mem)) × ((length (entryOf (now mem)) ≤ entryRoom) × (d .at + (proposalHead + entryRoom) ≤ length (now out))) ⌝ }
+    ensures { λ r. ⌜ (r ≡ d .at + (proposalHead + length (entryOf (now (mem .entry))))) × (now (out .exit) ≡ patch (now (out .entry)) (d .at) (ownProposalBytes (now (mem .entry)) (d .counters .view .0) child)) ⌝ }
 {
     let at = d.at;
     let c = d.counters;
@@ -82,7 +83,7 @@ fn put_own_proposal(mem: &[u8], out: &mut [u8], d: Draft, child: Child) -> usize
 
 // Propose: a block of that name is built on the safe block, whose height is handed in, sent, and taken as one's own.
 pub fn on_propose(mem: &mut [u8], out: &mut [u8], d: Draft, name: [u8; 32], base: Height) -> Event
-    requires { ⌜ Ready d (now mem) (now out) (88 + entryRoom + 48) × ((base .0 < lastHeight) × (blockCountOf (now mem) < storeLength)) ⌝ }
+    requires { ⌜ Ready d (now mem) (now out) (proposalHead + entryRoom + voteLength) × ((base .0 < lastHeight) × (blockCountOf (now mem) < storeLength)) ⌝ }
     ensures { λ r. ⌜ Gives (onPropose name) (Proposable name (base .0)) d (now (mem .entry)) (now (out .entry)) r (now (mem .exit)) (now (out .exit)) ⌝ }
 {
     let counters = d.counters;

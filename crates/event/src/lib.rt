@@ -18,6 +18,7 @@ ghost use mathlib.Core.Path.{_≡_};
 ghost use Prim.Native.Nat.{_+_, _≤_};
 ghost use lib.ListN.{length};
 ghost use Rattle.settings.specs.Quorum.{replicas};
+ghost use Rattle.wire.specs.Fields.{voteLength};
 ghost use Rattle.memory.specs.Layout.{memoryLength, entryRoom, settingsOf, blockCountOf};
 ghost use Rattle.protocol.specs.Refusals.{storeLength};
 ghost use Rattle.protocol.specs.Events.{propositionOf};
@@ -71,7 +72,7 @@ fn hold_and_vote(
     block: Block,
     held: bool,
 ) -> Event
-    requires { ⌜ Ready d (now mem) (now out) 48 × HasRoom (now mem) held ⌝ }
+    requires { ⌜ Ready d (now mem) (now out) voteLength × HasRoom (now mem) held ⌝ }
     ensures { λ r. ⌜ Gives (holdVote (view .0) block) (HeldIs (block .name) held) d (now (mem .entry)) (now (out .entry)) r (now (mem .exit)) (now (out .exit)) ⌝ }
 {
     let c = d.counters;
@@ -104,7 +105,7 @@ fn proposition(
     rec: &[u8],
     held: bool,
 ) -> Event
-    requires { ⌜ Ready d (now mem) (now out) (entryRoom + 48) × (IsProgress (replicas (settingsOf (now mem))) (now rec) × HasRoom (now mem) held) ⌝ }
+    requires { ⌜ Ready d (now mem) (now out) (entryRoom + voteLength) × (IsProgress (replicas (settingsOf (now mem))) (now rec) × HasRoom (now mem) held) ⌝ }
     ensures { λ r. ⌜ Gives (propositionOf (view .0) block (now (rec .entry))) (HeldIs (block .name) held) d (now (mem .entry)) (now (out .entry)) r (now (mem .exit)) (now (out .exit)) ⌝ }
 {
     let c = d.counters;

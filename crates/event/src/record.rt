@@ -20,7 +20,7 @@ ghost use Prim.Native.Nat.{_+_, _≤_, _<_};
 ghost use lib.ListN.{length};
 ghost use Rattle.settings.specs.Quorum.{largest, replicas};
 ghost use Rattle.codec.specs.Names.{nameLength};
-ghost use Rattle.wire.specs.Fields.{senderOf, viewOf, nameOf, progressOf, timeoutLength};
+ghost use Rattle.wire.specs.Fields.{senderOf, viewOf, nameOf, progressOf, timeoutLength, headerLength, voteLength, blockLength};
 ghost use Rattle.wire.specs.Content.{content};
 ghost use Rattle.memory.specs.Layout.{memoryLength, entryRoom, settingsOf, blockCountOf, voteRow, commitRow, timeoutRow};
 ghost use Rattle.memory.specs.Kept.{keep};
@@ -31,7 +31,7 @@ ghost use Rattle.act.specs.Progress.{IsProgress};
 ghost use Rattle.event.specs.Event.{Gives, HeldIs, HasRoom, placeFor, countedIn, Asked, Taken, blockOfChild, proposedBlock, saidBlock};
 
 fn keep_vote(mem: &mut [u8], rec: &[u8])
-    requires { ⌜ (memoryLength ≤ length (now mem)) × ((length (now rec) ≡ 48) × (senderOf (now rec) < largest)) ⌝ }
+    requires { ⌜ (memoryLength ≤ length (now mem)) × ((length (now rec) ≡ voteLength) × (senderOf (now rec) < largest)) ⌝ }
     ensures { λ _. ⌜ now (mem .exit) ≡ keep (now (mem .entry)) (voteRow (viewOf (now (rec .entry)))) nameLength (senderOf (now (rec .entry))) (nameOf (now (rec .entry))) ⌝ }
 {
     keep(
@@ -43,7 +43,7 @@ fn keep_vote(mem: &mut [u8], rec: &[u8])
 }
 
 fn keep_commit(mem: &mut [u8], rec: &[u8])
-    requires { ⌜ (memoryLength ≤ length (now mem)) × ((length (now rec) ≡ 48) × (senderOf (now rec) < largest)) ⌝ }
+    requires { ⌜ (memoryLength ≤ length (now mem)) × ((length (now rec) ≡ voteLength) × (senderOf (now rec) < largest)) ⌝ }
     ensures { λ _. ⌜ now (mem .exit) ≡ keep (now (mem .entry)) (commitRow (viewOf (now (rec .entry)))) nameLength (senderOf (now (rec .entry))) (nameOf (now (rec .entry))) ⌝ }
 {
     keep(
@@ -55,7 +55,7 @@ fn keep_commit(mem: &mut [u8], rec: &[u8])
 }
 
 fn keep_timeout(mem: &mut [u8], rec: &[u8])
-    requires { ⌜ (memoryLength ≤ length (now mem)) × ((length (now rec) ≡ 112) × (senderOf (now rec) < largest)) ⌝ }
+    requires { ⌜ (memoryLength ≤ length (now mem)) × ((length (now rec) ≡ timeoutLength) × (senderOf (now rec) < largest)) ⌝ }
     ensures { λ _. ⌜ now (mem .exit) ≡ keep (now (mem .entry)) (timeoutRow (viewOf (now (rec .entry)))) timeoutLength (senderOf (now (rec .entry))) (now (rec .entry)) ⌝ }
 {
     keep(
@@ -81,7 +81,7 @@ fn block_of(child: Child) -> Block
 
 // Kind 7.
 fn on_proposal(mem: &mut [u8], out: &mut [u8], d: Draft, rec: &[u8], held: bool) -> Event
-    requires { ⌜ Ready d (now mem) (now out) (entryRoom + 48) × (IsProgress (replicas (settingsOf (now mem))) (progressOf (now rec)) × HasRoom (now mem) held) ⌝ }
+    requires { ⌜ Ready d (now mem) (now out) (entryRoom + voteLength) × (IsProgress (replicas (settingsOf (now mem))) (progressOf (now rec)) × HasRoom (now mem) held) ⌝ }
     ensures { λ r. ⌜ Gives (propositionOf (viewOf (now (rec .entry))) (proposedBlock (now (rec .entry))) (progressOf (now (rec .entry)))) (HeldIs (nameOf (now (rec .entry))) held) d (now (mem .entry)) (now (out .entry)) r (now (mem .exit)) (now (out .exit)) ⌝ }
 {
     let view = View(u64_at(rec, 8));
@@ -99,7 +99,7 @@ fn on_proposal(mem: &mut [u8], out: &mut [u8], d: Draft, rec: &[u8], held: bool)
 
 // Kind 8.
 fn on_block(mem: &mut [u8], d: Draft, rec: &[u8], held: bool) -> Event
-    requires { ⌜ (memoryLength ≤ length (now mem)) × ((blockCountOf (now mem) ≤ storeLength) × (80 ≤ length (now rec))) ⌝ }
+    requires { ⌜ (memoryLength ≤ length (now mem)) × ((blockCountOf (now mem) ≤ storeLength) × (blockLength ≤ length (now rec))) ⌝ }
     ensures { λ r. ⌜ (r .draft ≡ d) × ((r .place ≡ placeFor (now (mem .entry)) held) × ((r .block ≡ saidBlock (now (rec .entry))) × (now (mem .exit) ≡ countedIn (now (mem .entry)) held))) ⌝ }
 {
     let block = block_of(wire::read::block(rec));
@@ -112,7 +112,7 @@ fn on_block(mem: &mut [u8], d: Draft, rec: &[u8], held: bool) -> Event
 }
 
 pub fn on_record(mem: &mut [u8], out: &mut [u8], d: Draft, rec: &[u8], held: bool) -> Event
-    requires { ⌜ Ready d (now mem) (now out) (entryRoom + 48) × ((8 ≤ length (now rec)) × Taken (now mem) (now rec) held) ⌝ }
+    requires { ⌜ Ready d (now mem) (now out) (entryRoom + voteLength) × ((headerLength ≤ length (now rec)) × Taken (now mem) (now rec) held) ⌝ }
     ensures { λ r. ⌜ Gives (onRecord (now (rec .entry)) (content (now (rec .entry)))) (Asked (now (rec .entry)) held) d (now (mem .entry)) (now (out .entry)) r (now (mem .exit)) (now (out .exit)) ⌝ }
 {
     let kind = u16_at(rec, 4);

@@ -29,7 +29,7 @@ ghost use Rattle.settings.specs.Quorum.{largest, replicas};
 ghost use Rattle.wire.specs.Shape.{badLength, badKind, shapeRules};
 ghost use Rattle.wire.specs.Content.{certificateOf, content};
 ghost use Rattle.blocks.specs.declared.Block.{Block};
-ghost use Rattle.memory.specs.Layout.{memoryLength, settingsOf, entryOf};
+ghost use Rattle.memory.specs.Layout.{memoryLength, settingsOf, entryOf, entryPlace};
 ghost use Rattle.protocol.specs.Refusals.{regionRules, timerRules};
 ghost use Rattle.protocol.specs.Calls.{_then_};
 ghost use Rattle.refusals.specs.Number.{firstOf};
@@ -70,7 +70,7 @@ fn shape_number(rec: &[u8], n: u64) -> u64
 }
 
 fn names(mem: &[u8], name: [u8; 32], base: [u8; 32]) -> Want
-    requires { ⌜ 16 ≤ length (now mem) ⌝ }
+    requires { ⌜ entryPlace ≤ length (now mem) ⌝ }
     ensures { λ r. ⌜ r ≡ names (now (mem .entry)) name base ⌝ }
 {
     Want {

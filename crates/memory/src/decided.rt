@@ -14,6 +14,7 @@ ghost use Prim.Native.Nat.{_+_, _≤_, _<_};
 ghost use lib.Dec.{leb};
 ghost use lib.ListN.{length};
 ghost use Rattle.settings.specs.Quorum.{largest};
+ghost use Rattle.codec.specs.Names.{nameLength};
 ghost use Rattle.memory.specs.Layout.{memoryLength, rowSize};
 ghost use Rattle.memory.specs.Kept.{keptCount};
 ghost use Rattle.memory.specs.Decided.{noChoice, chosen, tooFew, above, improves, backed, standing, consider, choose, nextDecided, firstOf, likely, finding, findDecided};
@@ -72,7 +73,7 @@ fn improves(after: Choice, best: Choice, name: [u8; 32]) -> bool
 
 // Enough of the first n replicas back a name in a row.
 fn backed(mem: &[u8], row: usize, n: usize, quorum: u64, name: [u8; 32]) -> bool
-    requires { ⌜ (memoryLength ≤ length (now mem)) × ((row + rowSize 32 ≤ memoryLength) × (n ≤ largest)) ⌝ }
+    requires { ⌜ (memoryLength ≤ length (now mem)) × ((row + rowSize nameLength ≤ memoryLength) × (n ≤ largest)) ⌝ }
     ensures { λ r. ⌜ r ≡ backed (now (mem .entry)) row n quorum name ⌝ }
 {
     let t = count_backers(mem, row, name, n);
@@ -89,7 +90,7 @@ fn consider(
     best: Choice,
     i: usize,
 ) -> Choice
-    requires { ⌜ (memoryLength ≤ length (now mem)) × ((row + rowSize 32 ≤ memoryLength) × ((n ≤ largest) × (i < largest))) ⌝ }
+    requires { ⌜ (memoryLength ≤ length (now mem)) × ((row + rowSize nameLength ≤ memoryLength) × ((n ≤ largest) × (i < largest))) ⌝ }
     ensures { λ r. ⌜ r ≡ consider (now (mem .entry)) row (backed (now (mem .entry)) row n quorum) after i best ⌝ }
 {
     if !has(mem, row, i as u64) {
@@ -107,7 +108,7 @@ fn consider(
 
 // So many replicas have an entry behind the first i that these alone could still be a quorum.
 fn more_to_see(mem: &[u8], row: usize, n: usize, quorum: u64, i: usize) -> bool
-    requires { ⌜ (memoryLength ≤ length (now mem)) × ((row + rowSize 32 ≤ memoryLength) × ((n ≤ largest) × (i ≤ n))) ⌝ }
+    requires { ⌜ (memoryLength ≤ length (now mem)) × ((row + rowSize nameLength ≤ memoryLength) × ((n ≤ largest) × (i ≤ n))) ⌝ }
     ensures { λ r. ⌜ r ≡ leb (quorum + keptCount (now (mem .entry)) row i) (keptCount (now (mem .entry)) row n) ⌝ }
 {
     let seen = kept_count(mem, row, i as u64);
@@ -120,7 +121,7 @@ fn more_to_see(mem: &[u8], row: usize, n: usize, quorum: u64, i: usize) -> bool
 
 // A name that a quorum backs stands among the first entries, so the search ends where those left over are too few for a quorum.
 fn choose(mem: &[u8], row: usize, n: usize, quorum: u64, after: Choice, first: Choice) -> Choice
-    requires { ⌜ (memoryLength ≤ length (now mem)) × ((row + rowSize 32 ≤ memoryLength) × (n ≤ largest)) ⌝ }
+    requires { ⌜ (memoryLength ≤ length (now mem)) × ((row + rowSize nameLength ≤ memoryLength) × (n ≤ largest)) ⌝ }
     ensures { λ r. ⌜ r ≡ choose (now (mem .entry)) row (backed (now (mem .entry)) row n quorum) after first n ⌝ }
 {
     let mut best = first;
@@ -165,7 +166,7 @@ pub fn next_decided(mem: &[u8], q: Quorums, after: Choice) -> Choice
 
 // A replica has one entry in a row, so those that don't back the name are for others.
 pub fn standing_of(mem: &[u8], row: usize, n: usize, quorum: u64, name: [u8; 32]) -> Standing
-    requires { ⌜ (memoryLength ≤ length (now mem)) × ((row + rowSize 32 ≤ memoryLength) × (n ≤ largest)) ⌝ }
+    requires { ⌜ (memoryLength ≤ length (now mem)) × ((row + rowSize nameLength ≤ memoryLength) × (n ≤ largest)) ⌝ }
     ensures { λ r. ⌜ r ≡ standing (now (mem .entry)) row n quorum name ⌝ }
 {
     let t = count_backers(mem, row, name, n);
@@ -178,7 +179,7 @@ pub fn standing_of(mem: &[u8], row: usize, n: usize, quorum: u64, name: [u8; 32]
 
 // The first entry of a row; zero where there is none.
 fn first_name(mem: &[u8], row: usize, n: usize) -> [u8; 32]
-    requires { ⌜ (memoryLength ≤ length (now mem)) × ((row + rowSize 32 ≤ memoryLength) × (n ≤ largest)) ⌝ }
+    requires { ⌜ (memoryLength ≤ length (now mem)) × ((row + rowSize nameLength ≤ memoryLength) × (n ≤ largest)) ⌝ }
     ensures { λ r. ⌜ r ≡ firstOf (now (mem .entry)) row 0 n ⌝ }
 {
     let mut i = 0;

@@ -14,6 +14,7 @@ ghost use Prim.Native.Nat.{_+_, _*_, _≤_, _<_, _^_};
 ghost use lib.ListN.{length};
 ghost use Rattle.codec.specs.Bytes.{patch};
 ghost use Rattle.settings.specs.Quorum.{largest};
+ghost use Rattle.codec.specs.Names.{nameLength};
 ghost use Rattle.memory.specs.Layout.{rowSize, voteRow, commitRow, timeoutRow};
 ghost use Rattle.memory.specs.Kept.{entryAt, mask, has, keptCount, kept, keep, cleared, gathered, backs, tallied, tally};
 
@@ -107,7 +108,7 @@ pub fn clear_row(mem: &mut [u8], row: usize, width: usize)
 }
 
 fn backs(mem: &[u8], row: usize, name: [u8; 32], i: usize) -> bool
-    requires { ⌜ (row ≤ 65535) × ((i < largest) × (row + rowSize 32 ≤ length (now mem))) ⌝ }
+    requires { ⌜ (row ≤ 65535) × ((i < largest) × (row + rowSize nameLength ≤ length (now mem))) ⌝ }
     ensures { λ r. ⌜ r ≡ backs (now (mem .entry)) row name i ⌝ }
 {
     if has(mem, row, i as u64) {
@@ -117,7 +118,7 @@ fn backs(mem: &[u8], row: usize, name: [u8; 32], i: usize) -> bool
 }
 
 fn tallied(mem: &[u8], row: usize, name: [u8; 32], i: usize, c: Tally) -> Tally
-    requires { ⌜ (row ≤ 65535) × ((i < largest) × ((row + rowSize 32 ≤ length (now mem)) × ((c .count ≤ i) × (c .signers < 2 ^ i)))) ⌝ }
+    requires { ⌜ (row ≤ 65535) × ((i < largest) × ((row + rowSize nameLength ≤ length (now mem)) × ((c .count ≤ i) × (c .signers < 2 ^ i)))) ⌝ }
     ensures { λ r. ⌜ r ≡ tallied (now (mem .entry)) row name i c ⌝ }
 {
     if backs(mem, row, name, i) {
@@ -131,7 +132,7 @@ fn tallied(mem: &[u8], row: usize, name: [u8; 32], i: usize, c: Tally) -> Tally
 
 // How many of the first n replicas back a name, and which.
 pub fn count_backers(mem: &[u8], row: usize, name: [u8; 32], n: usize) -> Tally
-    requires { ⌜ (row ≤ 65535) × ((n ≤ largest) × (row + rowSize 32 ≤ length (now mem))) ⌝ }
+    requires { ⌜ (row ≤ 65535) × ((n ≤ largest) × (row + rowSize nameLength ≤ length (now mem))) ⌝ }
     ensures { λ r. ⌜ r ≡ tally (now (mem .entry)) row name n ⌝ }
 {
     let mut c = Tally {

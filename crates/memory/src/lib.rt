@@ -13,7 +13,7 @@ use settings::Settings;
 ghost use mathlib.Core.Path.{_≡_};
 ghost use Prim.Native.Nat.{_+_, _≤_};
 ghost use lib.ListN.{length};
-ghost use Rattle.memory.specs.Layout.{settingsOf, ownOf, blockCountOf, entryLengthOf, withBlockCount, withEntry};
+ghost use Rattle.memory.specs.Layout.{settingsOf, ownOf, blockCountOf, entryLengthOf, withBlockCount, withEntry, entryPlace};
 
 // Where the entry certificate stands.
 pub const ENTRY_PLACE: usize = 16;
@@ -27,7 +27,7 @@ pub const TIMEOUT_ROWS: u64 = 4;
 pub const LENGTH: usize = kept::END;
 
 pub fn settings(mem: &[u8]) -> Settings
-    requires { ⌜ 16 ≤ length (now mem) ⌝ }
+    requires { ⌜ entryPlace ≤ length (now mem) ⌝ }
     ensures { λ r. ⌜ r ≡ settingsOf (now (mem .entry)) ⌝ }
 {
     Settings {
@@ -38,28 +38,28 @@ pub fn settings(mem: &[u8]) -> Settings
 }
 
 pub fn own(mem: &[u8]) -> u16
-    requires { ⌜ 16 ≤ length (now mem) ⌝ }
+    requires { ⌜ entryPlace ≤ length (now mem) ⌝ }
     ensures { λ r. ⌜ r ≡ ownOf (now (mem .entry)) ⌝ }
 {
     u16_at(mem, 6)
 }
 
 pub fn block_count(mem: &[u8]) -> usize
-    requires { ⌜ 16 ≤ length (now mem) ⌝ }
+    requires { ⌜ entryPlace ≤ length (now mem) ⌝ }
     ensures { λ r. ⌜ r ≡ blockCountOf (now (mem .entry)) ⌝ }
 {
     u16_at(mem, 8) as usize
 }
 
 pub fn entry_length(mem: &[u8]) -> usize
-    requires { ⌜ 16 ≤ length (now mem) ⌝ }
+    requires { ⌜ entryPlace ≤ length (now mem) ⌝ }
     ensures { λ r. ⌜ r ≡ entryLengthOf (now (mem .entry)) ⌝ }
 {
     u16_at(mem, 10) as usize
 }
 
 pub fn put_block_count(mem: &mut [u8], k: u16)
-    requires { ⌜ 16 ≤ length (now mem) ⌝ }
+    requires { ⌜ entryPlace ≤ length (now mem) ⌝ }
     ensures { λ _. ⌜ now (mem .exit) ≡ withBlockCount (now (mem .entry)) k ⌝ }
 {
     put_u16(mem, 8, k);
@@ -67,7 +67,7 @@ pub fn put_block_count(mem: &mut [u8], k: u16)
 
 // The certificate by which the view was entered, as bytes.
 pub fn put_entry(mem: &mut [u8], rec: &[u8])
-    requires { ⌜ (16 + length (now rec) ≤ length (now mem)) × (length (now rec) ≤ 65535) ⌝ }
+    requires { ⌜ (entryPlace + length (now rec) ≤ length (now mem)) × (length (now rec) ≤ 65535) ⌝ }
     ensures { λ _. ⌜ now (mem .exit) ≡ withEntry (now (mem .entry)) (now (rec .entry)) ⌝ }
 {
     put_u16(mem, 10, rec.len() as u16);

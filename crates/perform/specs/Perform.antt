@@ -4,11 +4,11 @@ use mathlib.Core.Path.{_≡_}
 use mathlib.Core.List.{List}
 use lib.ListN.{length, set}
 use Rattle.wire.specs.Content.{content}
-use Rattle.wire.specs.Fields.{releaseLength}
+use Rattle.wire.specs.Fields.{releaseLength, voteLength, blockCertificateLength, timeoutLength, proposalHead}
 use Rattle.blocks.specs.declared.Block.{Block}
 use Rattle.blocks.specs.declared.Found.{Found}
 use Rattle.blocks.specs.Store.{genesis}
-use Rattle.memory.specs.Layout.{entryRoom, blockCountOf}
+use Rattle.memory.specs.Layout.{entryRoom, blockCountOf, ballotRows, timeoutRows}
 use Rattle.counters.specs.declared.Counters.{Counters}
 use Rattle.protocol.specs.Work.{Work}
 use Rattle.protocol.specs.Refusals.{storeLength, regionRules, timerRules}
@@ -34,13 +34,13 @@ refusal c k = record { refusal = k; draft = fresh c; place = nowhere; block = ge
 
 -- what is written at most: by the rules A, B and C, by rule D, and by a whole call
 abbrev pub rulesRoom : ℕ
-rulesRoom = 112 * 4 + (entryRoom * 4 + 104 * 8)
+rulesRoom = timeoutLength * timeoutRows + (entryRoom * timeoutRows + (blockCertificateLength + voteLength) * ballotRows)
 
 abbrev pub releasesRoom : ℕ
 releasesRoom = releaseLength * storeLength
 
 abbrev pub callRoom : ℕ
-callRoom = 88 + entryRoom + 48 + (rulesRoom + releasesRoom)
+callRoom = proposalHead + entryRoom + voteLength + (rulesRoom + releasesRoom)
 
 -- AN ACCEPTED CALL: once the block is filled in at its place, what the event f and the rules A, B and C leave, for every store of which `given`
 -- holds. As many turns as there are held blocks are left for rule D, and it has room

@@ -37,12 +37,13 @@ ghost use lib.Dec.{leb, ltb, eqb};
 ghost use lib.ListN.{length};
 ghost use Rattle.settings.specs.Answer.{_⇒_};
 ghost use Rattle.settings.specs.Quorum.{largest, lastView, replicas};
-ghost use Rattle.wire.specs.Fields.{senderOf, viewOf, nameOf, progressOf};
+ghost use Rattle.codec.specs.Names.{nameLength};
+ghost use Rattle.wire.specs.Fields.{senderOf, viewOf, nameOf, progressOf, headerLength, voteLength, timeoutLength, proposalHead};
 ghost use Rattle.wire.specs.Shape.{certificateLength, certificateKindBad, badLength, badKind};
 ghost use Rattle.wire.specs.declared.Progress.the-variants.{Block, Timeouts};
 ghost use Rattle.wire.specs.Content.{vote, commit, timeout, certificate, timeoutOf, certificateOf, content, progressMeans, Within};
 ghost use Rattle.certificate.specs.Good.{progressGood};
-ghost use Rattle.memory.specs.Layout.{memoryLength, rowSize, settingsOf, ownOf};
+ghost use Rattle.memory.specs.Layout.{memoryLength, rowSize, settingsOf, ownOf, entryPlace};
 ghost use Rattle.memory.specs.Window.{leaderOf};
 ghost use Rattle.protocol.specs.Refusals.{refusals, viewOfProgress};
 ghost use Rattle.refusals.specs.Number.{firstOf};
@@ -50,7 +51,7 @@ ghost use Rattle.refusals.specs.Early.{lent, ballotRules, keptRules, vot
 
 // 6: of no replica of the cluster, or of oneself.
 fn not_other(mem: &[u8], sender: u64) -> bool
-    requires { ⌜ 16 ≤ length (now mem) ⌝ }
+    requires { ⌜ entryPlace ≤ length (now mem) ⌝ }
     ensures { λ r. ⌜ r ≡ (leb (replicas (settingsOf (now (mem .entry)))) sender || eqb sender (ownOf (now (mem .entry)))) ⌝ }
 {
     if settings(mem).n() <= sender {
@@ -83,7 +84,7 @@ fn above_window(current: View, v: View) -> bool
 
 // Kinds 1 and 2, kept in a row.
 fn ballot(c: Counters, mem: &[u8], row: usize, sender: u64, vote: Vote) -> u64
-    requires { ⌜ (memoryLength ≤ length (now mem)) × ((replicas (settingsOf (now mem)) ≤ largest) × (row + rowSize 32 ≤ memoryLength)) ⌝ }
+    requires { ⌜ (memoryLength ≤ length (now mem)) × ((replicas (settingsOf (now mem)) ≤ largest) × (row + rowSize nameLength ≤ memoryLength)) ⌝ }
     ensures { λ r. ⌜ r ≡ firstOf (ballotRules (lent c (now (mem .entry)) []) row sender (vote .view .0) (vote .name)) ⌝ }
 {
     let name = vote.name;
@@ -106,7 +107,7 @@ fn ballot(c: Counters, mem: &[u8], row: usize, sender: u64, vote: Vote) -> u64
 }
 
 fn vote_early(c: Counters, mem: &[u8], rec: &[u8]) -> u64
-    requires { ⌜ (memoryLength ≤ length (now mem)) × ((replicas (settingsOf (now mem)) ≤ largest) × (48 ≤ length (now rec))) ⌝ }
+    requires { ⌜ (memoryLength ≤ length (now mem)) × ((replicas (settingsOf (now mem)) ≤ largest) × (voteLength ≤ length (now rec))) ⌝ }
     ensures { λ r. ⌜ r ≡ firstOf (refusals (lent c (now (mem .entry)) []) (now (rec .entry)) (vote (senderOf (now (rec .entry))) (viewOf (now (rec .entry))) (nameOf (now (rec .entry))))) ⌝ }
 {
     let v = vote(rec, 8);
@@ -115,7 +116,7 @@ fn vote_early(c: Counters, mem: &[u8], rec: &[u8]) -> u64
 }
 
 fn commit_early(c: Counters, mem: &[u8], rec: &[u8]) -> u64
-    requires { ⌜ (memoryLength ≤ length (now mem)) × ((replicas (settingsOf (now mem)) ≤ largest) × (48 ≤ length (now rec))) ⌝ }
+    requires { ⌜ (memoryLength ≤ length (now mem)) × ((replicas (settingsOf (now mem)) ≤ largest) × (voteLength ≤ length (now rec))) ⌝ }
     ensures { λ r. ⌜ r ≡ firstOf (refusals (lent c (now (mem .entry)) []) (now (rec .entry)) (commit (senderOf (now (rec .entry))) (viewOf (now (rec .entry))) (nameOf (now (rec .entry))))) ⌝ }
 {
     let v = vote(rec, 8);
@@ -125,7 +126,7 @@ fn commit_early(c: Counters, mem: &[u8], rec: &[u8]) -> u64
 
 // Kind 3. It has no window: a certificate of any view below the last may be above the lock.
 fn block_certificate_early(c: Counters, mem: &[u8], rec: &[u8], b: BlockCertificate) -> u64
-    requires { ⌜ (16 ≤ length (now mem)) × ((8 ≤ length (now rec)) × Within (now rec) (Block b)) ⌝ }
+    requires { ⌜ (entryPlace ≤ length (now mem)) × ((headerLength ≤ length (now rec)) × Within (now rec) (Block b)) ⌝ }
     ensures { λ r. ⌜ r ≡ firstOf (refusals (lent c (now (mem .entry)) []) (now (rec .entry)) (certificate (senderOf (now (rec .entry))) (progressMeans (now (rec .entry)) (Block b)))) ⌝ }
 {
     let s = settings(mem);
@@ -149,7 +150,7 @@ fn block_certificate_early(c: Counters, mem: &[u8], rec: &[u8], b: BlockCertific
 
 // Kind 6.
 fn timeout_certificate_early(c: Counters, mem: &[u8], rec: &[u8], t: TimeoutCertificate) -> u64
-    requires { ⌜ (16 ≤ length (now mem)) × ((8 ≤ length (now rec)) × Within (now rec) (Timeouts t)) ⌝ }
+    requires { ⌜ (entryPlace ≤ length (now mem)) × ((headerLength ≤ length (now rec)) × Within (now rec) (Timeouts t)) ⌝ }
     ensures { λ r. ⌜ r ≡ firstOf (refusals (lent c (now (mem .entry)) []) (now (rec .entry)) (certificate (senderOf (now (rec .entry))) (progressMeans (now (rec .entry)) (Timeouts t)))) ⌝ }
 {
     let s = settings(mem);
@@ -171,7 +172,7 @@ fn timeout_certificate_early(c: Counters, mem: &[u8], rec: &[u8], t: TimeoutCert
 
 // Kinds 3 and 6: a certificate that is a record of its own.
 fn certificate_early(c: Counters, mem: &[u8], rec: &[u8]) -> u64
-    requires { ⌜ (16 ≤ length (now mem)) × ((certificateLength (now rec) ≡ false) × (certificateKindBad (now rec) ≡ false)) ⌝ }
+    requires { ⌜ (entryPlace ≤ length (now mem)) × ((certificateLength (now rec) ≡ false) × (certificateKindBad (now rec) ≡ false)) ⌝ }
     ensures { λ r. ⌜ r ≡ firstOf (refusals (lent c (now (mem .entry)) []) (now (rec .entry)) (certificate (senderOf (now (rec .entry))) (certificateOf (now (rec .entry))))) ⌝ }
 {
     let read = progress(rec, 0);
@@ -183,7 +184,7 @@ fn certificate_early(c: Counters, mem: &[u8], rec: &[u8]) -> u64
 
 // 10 and 11 of kind 5: the kept timeout of a sender, all its bytes compared.
 fn timeout_kept(mem: &[u8], row: usize, sender: u64, rec: &[u8]) -> u64
-    requires { ⌜ (memoryLength ≤ length (now mem)) × ((sender < largest) × (row + rowSize 112 ≤ memoryLength)) ⌝ }
+    requires { ⌜ (memoryLength ≤ length (now mem)) × ((sender < largest) × (row + rowSize timeoutLength ≤ memoryLength)) ⌝ }
     ensures { λ r. ⌜ r ≡ firstOf (keptRules (now (mem .entry)) row sender (now (rec .entry))) ⌝ }
 {
     if !has(mem, row, sender) {
@@ -198,7 +199,7 @@ fn timeout_kept(mem: &[u8], row: usize, sender: u64, rec: &[u8]) -> u64
 
 // Kind 5.
 fn timeout_early(c: Counters, mem: &[u8], rec: &[u8]) -> u64
-    requires { ⌜ (memoryLength ≤ length (now mem)) × ((replicas (settingsOf (now mem)) ≤ largest) × (112 ≤ length (now rec))) ⌝ }
+    requires { ⌜ (memoryLength ≤ length (now mem)) × ((replicas (settingsOf (now mem)) ≤ largest) × (timeoutLength ≤ length (now rec))) ⌝ }
     ensures { λ r. ⌜ r ≡ firstOf (refusals (lent c (now (mem .entry)) []) (now (rec .entry)) (timeout (timeoutOf (now (rec .entry))))) ⌝ }
 {
     let sender = u16_at(rec, 6) as u64;
@@ -220,7 +221,7 @@ fn timeout_early(c: Counters, mem: &[u8], rec: &[u8]) -> u64
 
 // 6 of kind 7: not by another replica, or not by the leader of its view.
 fn not_leader(mem: &[u8], sender: u64, v: View) -> bool
-    requires { ⌜ 16 ≤ length (now mem) ⌝ }
+    requires { ⌜ entryPlace ≤ length (now mem) ⌝ }
     ensures { λ r. ⌜ r ≡ ((leb (replicas (settingsOf (now (mem .entry)))) sender || eqb sender (ownOf (now (mem .entry)))) || (ltb 0 (v .0) && not (eqb sender (leaderOf (settingsOf (now (mem .entry))) (v .0))))) ⌝ }
 {
     if not_other(mem, sender) {
@@ -274,7 +275,7 @@ fn voted(c: Counters, v: View, name: [u8; 32]) -> u64
 
 // Kind 7, up to the high vote.
 fn proposal_early(c: Counters, mem: &[u8], rec: &[u8]) -> u64
-    requires { ⌜ (16 ≤ length (now mem)) × ((96 ≤ length (now rec)) × ((certificateLength (progressOf (now rec)) ≡ false) × (certificateKindBad (progressOf (now rec)) ≡ false))) ⌝ }
+    requires { ⌜ (entryPlace ≤ length (now mem)) × ((proposalHead + headerLength ≤ length (now rec)) × ((certificateLength (progressOf (now rec)) ≡ false) × (certificateKindBad (progressOf (now rec)) ≡ false))) ⌝ }
     ensures { λ r. ⌜ r ≡ firstOf (proposalRules (lent c (now (mem .entry)) []) (senderOf (now (rec .entry))) (viewOf (now (rec .entry))) (nameOf (now (rec .entry))) (certificateOf (progressOf (now (rec .entry))))) ⌝ }
 {
     let v = View(u64_at(rec, 8));
@@ -296,7 +297,7 @@ fn proposal_early(c: Counters, mem: &[u8], rec: &[u8]) -> u64
 
 // Kind 8: all but 6 asks the store.
 fn block_early(mem: &[u8], rec: &[u8]) -> u64
-    requires { ⌜ (16 ≤ length (now mem)) × (8 ≤ length (now rec)) ⌝ }
+    requires { ⌜ (entryPlace ≤ length (now mem)) × (headerLength ≤ length (now rec)) ⌝ }
     ensures { λ r. ⌜ r ≡ firstOf (leb (replicas (settingsOf (now (mem .entry)))) (senderOf (now (rec .entry))) ⇒ 6 ∷ []) ⌝ }
 {
     if settings(mem).n() <= u16_at(rec, 6) as u64 {
@@ -331,7 +332,7 @@ pub fn early(c: Counters, mem: &[u8], rec: &[u8]) -> u64
 
 // 15: propose out of turn.
 fn not_in_turn(c: Counters, mem: &[u8]) -> bool
-    requires { ⌜ (16 ≤ length (now mem)) × (0 < c .view .0) ⌝ }
+    requires { ⌜ (entryPlace ≤ length (now mem)) × (0 < c .view .0) ⌝ }
     ensures { λ r. ⌜ r ≡ (not (eqb (leaderOf (settingsOf (now (mem .entry))) (c .view .0)) (ownOf (now (mem .entry)))) || (leb (c .view .0) (c .timed .0) || (eqb (c .high .view .0) (c .view .0) || leb lastView (c .view .0)))) ⌝ }
 {
     if leader(settings(mem), c.view) != own(mem) as u64 {
@@ -349,7 +350,7 @@ fn not_in_turn(c: Counters, mem: &[u8]) -> bool
 
 // Propose: 15, then 5.
 pub fn propose_early(c: Counters, mem: &[u8], name: [u8; 32]) -> u64
-    requires { ⌜ (16 ≤ length (now mem)) × (0 < c .view .0) ⌝ }
+    requires { ⌜ (entryPlace ≤ length (now mem)) × (0 < c .view .0) ⌝ }
     ensures { λ r. ⌜ r ≡ firstOf (earlyPropose (lent c (now (mem .entry)) []) name) ⌝ }
 {
     if not_in_turn(c, mem) {

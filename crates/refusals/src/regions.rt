@@ -18,6 +18,7 @@ ghost use lib.Dec.{leb, ltb};
 ghost use lib.ListN.{length};
 ghost use Rattle.settings.specs.Quorum.{largest, replicas};
 ghost use Rattle.settings.specs.Opening.{inBound};
+ghost use Rattle.wire.specs.Fields.{timeoutsHead};
 ghost use Rattle.blocks.specs.declared.Block.{Block};
 ghost use Rattle.memory.specs.Layout.{memoryLength, entryOf};
 ghost use Rattle.protocol.specs.Refusals.{regular, regionRules};
@@ -29,7 +30,7 @@ pub const OUTPUT_LENGTH: usize = 32768;
 
 // A progress certificate that has its length.
 fn certificate_sized(rec: &[u8], n: u64) -> bool
-    requires { ⌜ 24 ≤ length (now rec) ⌝ }
+    requires { ⌜ timeoutsHead ≤ length (now rec) ⌝ }
     ensures { λ r. ⌜ r ≡ certificateSized n (now (rec .entry)) ⌝ }
 {
     let kind = u16_at(rec, 4);

@@ -2,6 +2,6 @@ pub mod Types
 pub mod Search
 pub mod Regular
 pub mod Putting
-pub mod Telling
+pub mod WrittenTip
 pub mod Releasing
 pub mod Turning

@@ -34,7 +34,7 @@ use Rattle.release.specs.Released.{recordsOf, Releases, Released, Releas
 use Rattle.release.specs.declared.Target.{Target}
 use Rattle.release.specs.declared.Turn.{Turn}
 use Rattle.release.proofs.Search.{pair-bare, target-standing}
-use Rattle.release.proofs.Telling.{Proper, tells, tells-none}
+use Rattle.release.proofs.WrittenTip.{Proper, tells, tells-none}
 use Rattle.release.proofs.Regular.{bounded, regular-same, count-after, release-regular}
 
 -- ---- RULE D IN TERMS OF THE TARGET

@@ -16,7 +16,7 @@ use Rattle.release.specs.declared.Target.{Target}
 use Rattle.release.specs.declared.Turn.{Turn}
 use Rattle.release.proofs.Regular.{regular-same}
 use Rattle.release.proofs.Releasing.{may-release, turns-left, turned, not-turned}
-use Rattle.release.proofs.Telling.{Proper}
+use Rattle.release.proofs.WrittenTip.{Proper}
 
 module _ (r : Turn) (m o : List ℕ) (s : List Block) (R : r .goes ≡ true → Ready (draftAt r) m o (releaseLength * length (take (blockCountOf m) s))) (g : Bool) (v : View) (tip : Block) (at : ℕ)
     (e-g : g ≡ r .goes) (e-v : v ≡ r .view) (e-tip : tip ≡ r .tip) (e-at : at ≡ r .at) where

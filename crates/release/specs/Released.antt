@@ -68,7 +68,7 @@ nextTurn r t at =
 abbrev pub draftAt : Turn → Draft
 draftAt r = record { counters = knownBy (r .view) (r .tip); at = r .at }
 
--- ---- THE TIP AFTERWARDS, as the written releases tell it
+-- ---- THE TIP AFTERWARDS, read off the written releases
 -- the last release of those that stand from one place to another, as a block: its parent is the release before it, or where there is none, what was the tip
 unfoldable pub lastReleased : List ℕ → ℕ → ℕ → Block → Block
 lastReleased o from to tip =
@@ -102,6 +102,6 @@ pub record Ends (r : Turn) (m o : List ℕ) (s : List Block) (to : ℕ) (m′ o�
 abbrev pub turnsLeft : Turn → ℕ
 turnsLeft r = r .left
 
--- after the last turn, of the draft with which it began: so many bytes are written, and they tell the tip
+-- after the last turn, of the draft with which it began: so many bytes are written, and the tip is read off them
 abbrev pub finishedOf : List ℕ → Draft → ℕ → Draft
 finishedOf o d to = record { counters = releasing (d .counters) (lastReleased o (d .at) to (d .counters .tip)); at = to }

@@ -496,7 +496,7 @@ fn turns(mem: &mut [u8], store: &mut [Block], out: &mut [u8], r: Turn) -> usize
 
 // The tip that the releases from one place to another leave: the last of them. Its parent is the one before it, or the tip before them.
 fn last_released(out: &[u8], from: usize, to: usize, tip: Block) -> Block
-    requires { ⌜ (to ≤ length (now out)) × ((from < to → from + 56 ≤ to) × (from + 56 < to → from + 112 ≤ to)) ⌝ }
+    requires { ⌜ (to ≤ length (now out)) × ((from < to → from + releaseLength ≤ to) × (from + releaseLength < to → from + 2 * releaseLength ≤ to)) ⌝ }
     ensures { λ r. ⌜ r ≡ lastReleased (now (out .entry)) from to tip ⌝ }
 {
     if to <= from {
@@ -523,7 +523,7 @@ fn last_released(out: &[u8], from: usize, to: usize, tip: Block) -> Block
 
 // The draft after the last turn.
 fn finished(out: &[u8], d: Draft, to: usize) -> Draft
-    requires { ⌜ (to ≤ length (now out)) × ((d .at < to → d .at + 56 ≤ to) × (d .at + 56 < to → d .at + 112 ≤ to)) ⌝ }
+    requires { ⌜ (to ≤ length (now out)) × ((d .at < to → d .at + releaseLength ≤ to) × (d .at + releaseLength < to → d .at + 2 * releaseLength ≤ to)) ⌝ }
     ensures { λ r. ⌜ r ≡ finishedOf (now (out .entry)) d to ⌝ }
 {
     let c = d.counters;

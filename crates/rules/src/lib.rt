@@ -27,6 +27,7 @@ ghost use mathlib.Core.Path.{_≡_};
 ghost use Prim.Native.Nat.{_+_, _*_, _≤_, _<_};
 ghost use lib.ListN.{length};
 ghost use Rattle.settings.specs.Quorum.{largest, lastView, replicas};
+ghost use Rattle.wire.specs.Fields.{voteLength, blockCertificateLength, timeoutLength};
 ghost use Rattle.memory.specs.Layout.{memoryLength, entryRoom, settingsOf, ownOf};
 ghost use Rattle.memory.specs.Decided.{noChoice, nextDecided};
 ghost use Rattle.memory.specs.Formed.{formed};
@@ -37,7 +38,7 @@ ghost use Rattle.rules.specs.Phases.{votesWanted, formsBlock, phaseA, ph
 
 // Rule A at a view: f+1 timeouts are kept for it, and own timeout is sent.
 pub fn rule_a(mem: &mut [u8], out: &mut [u8], d: Draft, view: View) -> Draft
-    requires { ⌜ Ready d (now mem) (now out) 112 ⌝ }
+    requires { ⌜ Ready d (now mem) (now out) timeoutLength ⌝ }
     ensures { λ r. ⌜ Does (ruleA (view .0)) d (now (mem .entry)) (now (out .entry)) r (now (mem .exit)) (now (out .exit)) ⌝ }
 {
     let c = d.counters;
@@ -83,7 +84,7 @@ pub fn rule_b(mem: &mut [u8], out: &mut [u8], d: Draft, view: View) -> Draft
 
 // The smallest name of a view for which a block quorum of votes is kept, if there is one. More commits than there are replicas are asked for, so
 // that only votes decide.
-fn most_voted(mem: &[u8], view: View) -> Choice
+fn smallest_voted(mem: &[u8], view: View) -> Choice
     requires { ⌜ (memoryLength ≤ length (now mem)) × (replicas (settingsOf (now mem)) ≤ largest) ⌝ }
     ensures { λ r. ⌜ r ≡ nextDecided (now (mem .entry)) (votesWanted (now (mem .entry)) (view .0)) noChoice ⌝ }
 {
@@ -104,7 +105,7 @@ fn most_voted(mem: &[u8], view: View) -> Choice
 
 // The block certificate of a name is formed of the kept votes for it, and does what an accepted one does.
 fn form_block(mem: &mut [u8], out: &mut [u8], d: Draft, view: View, name: [u8; 32]) -> Draft
-    requires { ⌜ Ready d (now mem) (now out) 104 × (view .0 < lastView) ⌝ }
+    requires { ⌜ Ready d (now mem) (now out) (blockCertificateLength + voteLength) × (view .0 < lastView) ⌝ }
     ensures { λ r. ⌜ Does (formsBlock (view .0) name) d (now (mem .entry)) (now (out .entry)) r (now (mem .exit)) (now (out .exit)) ⌝ }
 {
     let c = d.counters;
@@ -131,10 +132,10 @@ fn form_block(mem: &mut [u8], out: &mut [u8], d: Draft, view: View, name: [u8; 3
 
 // A name that enough kept votes back, if its certificate outranks the lock.
 fn certify(mem: &mut [u8], out: &mut [u8], d: Draft, view: View) -> Draft
-    requires { ⌜ Ready d (now mem) (now out) 104 × (view .0 < lastView) ⌝ }
+    requires { ⌜ Ready d (now mem) (now out) (blockCertificateLength + voteLength) × (view .0 < lastView) ⌝ }
     ensures { λ r. ⌜ Does (ruleC (view .0)) d (now (mem .entry)) (now (out .entry)) r (now (mem .exit)) (now (out .exit)) ⌝ }
 {
-    let found = most_voted(mem, view);
+    let found = smallest_voted(mem, view);
     if !found.some {
         return d;
     }
@@ -156,7 +157,7 @@ fn certify(mem: &mut [u8], out: &mut [u8], d: Draft, view: View) -> Draft
 
 // Rule C at a view: enough votes are kept for a name, and its certificate outranks the lock. Below the lock's view none does.
 pub fn rule_c(mem: &mut [u8], out: &mut [u8], d: Draft, view: View) -> Draft
-    requires { ⌜ Ready d (now mem) (now out) 104 × (view .0 < lastView) ⌝ }
+    requires { ⌜ Ready d (now mem) (now out) (blockCertificateLength + voteLength) × (view .0 < lastView) ⌝ }
     ensures { λ r. ⌜ Does (ruleC (view .0)) d (now (mem .entry)) (now (out .entry)) r (now (mem .exit)) (now (out .exit)) ⌝ }
 {
     let c = d.counters;

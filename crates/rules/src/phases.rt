@@ -17,12 +17,13 @@ ghost use mathlib.Core.Path.{_≡_};
 ghost use Prim.Native.Nat.{_+_, _*_, _≤_};
 ghost use lib.ListN.{length};
 ghost use Rattle.settings.specs.Quorum.{largest, lastView, replicas};
-ghost use Rattle.memory.specs.Layout.{memoryLength, entryRoom, settingsOf};
+ghost use Rattle.wire.specs.Fields.{voteLength, blockCertificateLength, timeoutLength};
+ghost use Rattle.memory.specs.Layout.{memoryLength, entryRoom, settingsOf, ballotRows, timeoutRows};
 ghost use Rattle.act.specs.Draft.{Does, Ready};
 ghost use Rattle.rules.specs.Phases.{phaseA, phaseB, phaseC, phases, echoable, fewTimeouts, certifiable, fewVotes};
 
 fn run_a(mem: &mut [u8], out: &mut [u8], d: Draft) -> Draft
-    requires { ⌜ Ready d (now mem) (now out) (112 * 4) ⌝ }
+    requires { ⌜ Ready d (now mem) (now out) (timeoutLength * timeoutRows) ⌝ }
     ensures { λ r. ⌜ Does phaseA d (now (mem .entry)) (now (out .entry)) r (now (mem .exit)) (now (out .exit)) ⌝ }
 {
     let c = d.counters;
@@ -37,7 +38,7 @@ fn run_a(mem: &mut [u8], out: &mut [u8], d: Draft) -> Draft
 }
 
 fn run_b(mem: &mut [u8], out: &mut [u8], d: Draft) -> Draft
-    requires { ⌜ Ready d (now mem) (now out) (entryRoom * 4) ⌝ }
+    requires { ⌜ Ready d (now mem) (now out) (entryRoom * timeoutRows) ⌝ }
     ensures { λ r. ⌜ Does phaseB d (now (mem .entry)) (now (out .entry)) r (now (mem .exit)) (now (out .exit)) ⌝ }
 {
     let c = d.counters;
@@ -52,7 +53,7 @@ fn run_b(mem: &mut [u8], out: &mut [u8], d: Draft) -> Draft
 }
 
 fn run_c(mem: &mut [u8], out: &mut [u8], d: Draft) -> Draft
-    requires { ⌜ Ready d (now mem) (now out) (104 * 8) ⌝ }
+    requires { ⌜ Ready d (now mem) (now out) ((blockCertificateLength + voteLength) * ballotRows) ⌝ }
     ensures { λ r. ⌜ Does phaseC d (now (mem .entry)) (now (out .entry)) r (now (mem .exit)) (now (out .exit)) ⌝ }
 {
     let c = d.counters;
@@ -68,7 +69,7 @@ fn run_c(mem: &mut [u8], out: &mut [u8], d: Draft) -> Draft
 
 // Rules A, B and C until none of them applies.
 fn run_all(mem: &mut [u8], out: &mut [u8], d: Draft) -> Draft
-    requires { ⌜ Ready d (now mem) (now out) (112 * 4 + (entryRoom * 4 + 104 * 8)) ⌝ }
+    requires { ⌜ Ready d (now mem) (now out) (timeoutLength * timeoutRows + (entryRoom * timeoutRows + (blockCertificateLength + voteLength) * ballotRows)) ⌝ }
     ensures { λ r. ⌜ Does phases d (now (mem .entry)) (now (out .entry)) r (now (mem .exit)) (now (out .exit)) ⌝ }
 {
     let a = run_a(mem, out, d);
@@ -140,7 +141,7 @@ fn few_votes(mem: &[u8], view: View, lock: Signed) -> bool
 
 // Rules A, B and C. Mostly none of them applies, which the counts of kept timeouts and votes tell before anything is moved.
 pub fn run(mem: &mut [u8], out: &mut [u8], d: Draft) -> Draft
-    requires { ⌜ Ready d (now mem) (now out) (112 * 4 + (entryRoom * 4 + 104 * 8)) ⌝ }
+    requires { ⌜ Ready d (now mem) (now out) (timeoutLength * timeoutRows + (entryRoom * timeoutRows + (blockCertificateLength + voteLength) * ballotRows)) ⌝ }
     ensures { λ r. ⌜ Does phases d (now (mem .entry)) (now (out .entry)) r (now (mem .exit)) (now (out .exit)) ⌝ }
 {
     let c = d.counters;

@@ -14,18 +14,11 @@ use Rattle.safety.specs.Lists.{In}
 use Rattle.safety.specs.Cluster.{Lawful, Cluster, EachHonest, EnoughHonest, HighVoted}
 use Rattle.safety.specs.Rows.{Begins, OneParent, firsts, Linked}
 use Rattle.safety.specs.Run.{AllAllowed, Machine, Log, tag, own, after, end, log, placements, Earlier, StepKeeps, Read, made, Did, cluster, row, AtEnd, Keeps}
-use Rattle.safety.proofs.Lists.{in-left, in-right, in-append}
+use Rattle.safety.proofs.Lists.{in-left, in-right}
 use Rattle.safety.proofs.Rows.{begins-equal, shorter-begins, number-begins, released-linked}
 use Rattle.safety.proofs.Trace.{high-votes, lawful}
 
 module _ (M : Machine) where
-  -- what every call's placements have, the run's have
-  pub placements-have : (P : M .Placement → Type 0) → ((s : M .State) (c : M .Call) (b : M .Placement) → In b (M .gives s c) → P b)
-      → (r : List (ℕ × M .Call)) (σ : ℕ → M .State) (b : M .Placement) → In b (placements M σ r) → P b
-  placements-have P f [] σ b p = absurd p
-  placements-have P f (e ∷ r) σ b p = ⊎-elim (f (σ (e .0)) (e .1) b) (placements-have P f r (after M σ (e .0) (e .1)) b)
-      (in-append b (M .gives (σ (e .0)) (e .1)) (placements M (after M σ (e .0) (e .1)) r) p)
-
   own-append : (i : ℕ) (l m : Log M) → own M i (l ++ m) ≡ own M i l ++ own M i m
   own-append i [] m = refl
   own-append i (e ∷ l) m = go (eqb (e .0) i) (own-append i l m)

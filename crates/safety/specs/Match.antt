@@ -1,4 +1,4 @@
--- When the records that a replica made tell its acts. Assumes nothing.
+-- When the records that a replica made say its acts. Assumes nothing.
 use mathlib.Core.List.{List, [], _∷_, _++_}
 use mathlib.Core.Path.{_≡_}
 use Rattle.safety.specs.Trace.{Act, vote, commit, timeout}

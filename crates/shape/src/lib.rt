@@ -12,7 +12,7 @@ ghost use mathlib.Core.Path.{_≡_};
 ghost use mathlib.Core.Bool.{false};
 ghost use Prim.Native.Nat.{_+_, _*_, _≤_};
 ghost use lib.ListN.{length, drop};
-ghost use Rattle.wire.specs.Fields.{cut, progressOf};
+ghost use Rattle.wire.specs.Fields.{cut, progressOf, headerLength, timeoutLength, timeoutsHead, proposalHead};
 ghost use Rattle.wire.specs.Shape.{any, frameBad, timeoutsLength, certificateLength, progressLength, kindLength, badLength, carriedKindBad, slotKindBad, certificateKindBad, badKind, beyond, halfEmpty, timeoutValueBad, slotValueBad, slotsValueBad, certificateValueBad, progressValueBad, proposalValueBad, badValue, shapeOf};
 ghost use Rattle.shape.specs.Verdict.{verdict};
 
@@ -40,8 +40,8 @@ fn frame_bad(rec: &[u8]) -> bool
 }
 
 fn slots_frame_bad(rec: &[u8], count: usize) -> bool
-    requires { ⌜ 24 + 112 * count ≤ length (now rec) ⌝ }
-    ensures { λ r. ⌜ r ≡ any frameBad (cut count (drop 24 (now (rec .entry)))) ⌝ }
+    requires { ⌜ timeoutsHead + timeoutLength * count ≤ length (now rec) ⌝ }
+    ensures { λ r. ⌜ r ≡ any frameBad (cut count (drop timeoutsHead (now (rec .entry)))) ⌝ }
 {
     let mut i = 0;
     while i < count {
@@ -68,7 +68,7 @@ fn timeouts_length_bad(rec: &[u8]) -> bool
 }
 
 fn certificate_length_bad(rec: &[u8]) -> bool
-    requires { ⌜ 8 ≤ length (now rec) ⌝ }
+    requires { ⌜ headerLength ≤ length (now rec) ⌝ }
     ensures { λ r. ⌜ r ≡ certificateLength (now (rec .entry)) ⌝ }
 {
     let kind = u16_at(rec, 4);
@@ -83,7 +83,7 @@ fn certificate_length_bad(rec: &[u8]) -> bool
 
 // By kind, of a slice with a header.
 fn kind_length_bad(rec: &[u8]) -> bool
-    requires { ⌜ 8 ≤ length (now rec) ⌝ }
+    requires { ⌜ headerLength ≤ length (now rec) ⌝ }
     ensures { λ r. ⌜ r ≡ kindLength (now (rec .entry)) ⌝ }
 {
     let kind = u16_at(rec, 4);
@@ -131,7 +131,7 @@ fn bad_length(rec: &[u8]) -> bool
 // ---- 4: kinds
 
 fn carried_kind_bad(rec: &[u8]) -> bool
-    requires { ⌜ 112 ≤ length (now rec) ⌝ }
+    requires { ⌜ timeoutLength ≤ length (now rec) ⌝ }
     ensures { λ r. ⌜ r ≡ carriedKindBad (now (rec .entry)) ⌝ }
 {
     let kind = u16_at(rec, 56);
@@ -142,7 +142,7 @@ fn carried_kind_bad(rec: &[u8]) -> bool
 }
 
 fn slot_kind_bad(rec: &[u8]) -> bool
-    requires { ⌜ 112 ≤ length (now rec) ⌝ }
+    requires { ⌜ timeoutLength ≤ length (now rec) ⌝ }
     ensures { λ r. ⌜ r ≡ slotKindBad (now (rec .entry)) ⌝ }
 {
     if u16_at(rec, 4) != 5 {
@@ -152,8 +152,8 @@ fn slot_kind_bad(rec: &[u8]) -> bool
 }
 
 fn slots_kind_bad(rec: &[u8], count: usize) -> bool
-    requires { ⌜ 24 + 112 * count ≤ length (now rec) ⌝ }
-    ensures { λ r. ⌜ r ≡ any slotKindBad (cut count (drop 24 (now (rec .entry)))) ⌝ }
+    requires { ⌜ timeoutsHead + timeoutLength * count ≤ length (now rec) ⌝ }
+    ensures { λ r. ⌜ r ≡ any slotKindBad (cut count (drop timeoutsHead (now (rec .entry)))) ⌝ }
 {
     let mut i = 0;
     while i < count {
@@ -167,7 +167,7 @@ fn slots_kind_bad(rec: &[u8], count: usize) -> bool
 }
 
 fn certificate_kind_bad(rec: &[u8]) -> bool
-    requires { ⌜ (8 ≤ length (now rec)) × (certificateLength (now rec) ≡ false) ⌝ }
+    requires { ⌜ (headerLength ≤ length (now rec)) × (certificateLength (now rec) ≡ false) ⌝ }
     ensures { λ r. ⌜ r ≡ certificateKindBad (now (rec .entry)) ⌝ }
 {
     let kind = u16_at(rec, 4);
@@ -226,7 +226,7 @@ fn half_empty(view: View, name: [u8; 32]) -> bool
 }
 
 fn timeout_value_bad(rec: &[u8], n: u64) -> bool
-    requires { ⌜ 112 ≤ length (now rec) ⌝ }
+    requires { ⌜ timeoutLength ≤ length (now rec) ⌝ }
     ensures { λ r. ⌜ r ≡ timeoutValueBad n (now (rec .entry)) ⌝ }
 {
     if le_at(rec, 58, 6) != 0 {
@@ -239,7 +239,7 @@ fn timeout_value_bad(rec: &[u8], n: u64) -> bool
 }
 
 fn slot_value_bad(rec: &[u8], n: u64, view: View, low: u64) -> bool
-    requires { ⌜ 112 ≤ length (now rec) ⌝ }
+    requires { ⌜ timeoutLength ≤ length (now rec) ⌝ }
     ensures { λ r. ⌜ r ≡ slotValueBad n (view .0) low (now (rec .entry)) ⌝ }
 {
     if u64_at(rec, 8) != view.0 {
@@ -256,8 +256,8 @@ fn slot_value_bad(rec: &[u8], n: u64, view: View, low: u64) -> bool
 }
 
 fn slots_value_bad(rec: &[u8], count: usize, n: u64, view: View) -> bool
-    requires { ⌜ 24 + 112 * count ≤ length (now rec) ⌝ }
-    ensures { λ r. ⌜ r ≡ slotsValueBad n (view .0) 0 (cut count (drop 24 (now (rec .entry)))) ⌝ }
+    requires { ⌜ timeoutsHead + timeoutLength * count ≤ length (now rec) ⌝ }
+    ensures { λ r. ⌜ r ≡ slotsValueBad n (view .0) 0 (cut count (drop timeoutsHead (now (rec .entry)))) ⌝ }
 {
     let mut i = 0;
     let mut low: u64 = 0;
@@ -274,7 +274,7 @@ fn slots_value_bad(rec: &[u8], count: usize, n: u64, view: View) -> bool
 }
 
 fn certificate_value_bad(rec: &[u8], n: u64) -> bool
-    requires { ⌜ (8 ≤ length (now rec)) × ((certificateLength (now rec) ≡ false) × (certificateKindBad (now rec) ≡ false)) ⌝ }
+    requires { ⌜ (headerLength ≤ length (now rec)) × ((certificateLength (now rec) ≡ false) × (certificateKindBad (now rec) ≡ false)) ⌝ }
     ensures { λ r. ⌜ r ≡ certificateValueBad n (now (rec .entry)) ⌝ }
 {
     if u16_at(rec, 4) == 3 {
@@ -289,7 +289,7 @@ fn certificate_value_bad(rec: &[u8], n: u64) -> bool
 }
 
 fn progress_value_bad(rec: &[u8], n: u64, sender: u16) -> bool
-    requires { ⌜ (8 ≤ length (now rec)) × ((certificateLength (now rec) ≡ false) × (certificateKindBad (now rec) ≡ false)) ⌝ }
+    requires { ⌜ (headerLength ≤ length (now rec)) × ((certificateLength (now rec) ≡ false) × (certificateKindBad (now rec) ≡ false)) ⌝ }
     ensures { λ r. ⌜ r ≡ progressValueBad n sender (now (rec .entry)) ⌝ }
 {
     let inner = u16_at(rec, 6);
@@ -303,7 +303,7 @@ fn progress_value_bad(rec: &[u8], n: u64, sender: u16) -> bool
 }
 
 fn proposal_value_bad(rec: &[u8], n: u64) -> bool
-    requires { ⌜ (96 ≤ length (now rec)) × ((certificateLength (progressOf (now rec)) ≡ false) × (certificateKindBad (progressOf (now rec)) ≡ false)) ⌝ }
+    requires { ⌜ (proposalHead + headerLength ≤ length (now rec)) × ((certificateLength (progressOf (now rec)) ≡ false) × (certificateKindBad (progressOf (now rec)) ≡ false)) ⌝ }
     ensures { λ r. ⌜ r ≡ proposalValueBad n (now (rec .entry)) ⌝ }
 {
     if is_zero(name_at(rec, 16)) {

@@ -14,7 +14,7 @@ use settings::View;
 ghost use mathlib.Core.Path.{_≡_};
 ghost use Prim.Native.Nat.{_+_, _≤_};
 ghost use lib.ListN.{length, drop};
-ghost use Rattle.wire.specs.Fields.{kindOf};
+ghost use Rattle.wire.specs.Fields.{kindOf, blockCertificateLength, timeoutLength, timeoutsHead, proposalHead, blockLength};
 ghost use Rattle.wire.specs.Content.{voteAt, carriedOf, timeoutOf, certificateOf, progressAt, progressMeans, proposedOf, blockOf};
 
 // A view and the name behind it.
@@ -29,7 +29,7 @@ pub fn vote(rec: &[u8], at: usize) -> Vote
 }
 
 fn carried(rec: &[u8]) -> Carried
-    requires { ⌜ 112 ≤ length (now rec) ⌝ }
+    requires { ⌜ timeoutLength ≤ length (now rec) ⌝ }
     ensures { λ r. ⌜ r ≡ carriedOf (now (rec .entry)) ⌝ }
 {
     Carried {
@@ -42,7 +42,7 @@ fn carried(rec: &[u8]) -> Carried
 
 // The reader of timeouts, for a record of kind 5 and for each timeout inside a timeout certificate.
 pub fn timeout(rec: &[u8]) -> Timeout
-    requires { ⌜ 112 ≤ length (now rec) ⌝ }
+    requires { ⌜ timeoutLength ≤ length (now rec) ⌝ }
     ensures { λ r. ⌜ r ≡ timeoutOf (now (rec .entry)) ⌝ }
 {
     Timeout {
@@ -55,7 +55,7 @@ pub fn timeout(rec: &[u8]) -> Timeout
 
 // The progress certificate that begins at a place: in a proposal at 88, in a record of kind 3 or 6 at 0.
 pub fn progress(rec: &[u8], at: usize) -> Progress
-    requires { ⌜ (at + 24 ≤ length (now rec)) × (kindOf (drop at (now rec)) ≡ 3 → at + 56 ≤ length (now rec)) ⌝ }
+    requires { ⌜ (at + timeoutsHead ≤ length (now rec)) × (kindOf (drop at (now rec)) ≡ 3 → at + blockCertificateLength ≤ length (now rec)) ⌝ }
     ensures { λ r. ⌜ (r ≡ progressAt (now (rec .entry)) at) × (progressMeans (now (rec .entry)) r ≡ certificateOf (drop at (now (rec .entry)))) ⌝ }
 {
     if u16_at(rec, at + 4) == 3 {
@@ -73,7 +73,7 @@ pub fn progress(rec: &[u8], at: usize) -> Progress
 
 // What a proposal says of its name.
 pub fn proposed(rec: &[u8]) -> Child
-    requires { ⌜ 88 ≤ length (now rec) ⌝ }
+    requires { ⌜ proposalHead ≤ length (now rec) ⌝ }
     ensures { λ r. ⌜ r ≡ proposedOf (now (rec .entry)) ⌝ }
 {
     Child {
@@ -85,7 +85,7 @@ pub fn proposed(rec: &[u8]) -> Child
 
 // What a block says of its name.
 pub fn block(rec: &[u8]) -> Child
-    requires { ⌜ 80 ≤ length (now rec) ⌝ }
+    requires { ⌜ blockLength ≤ length (now rec) ⌝ }
     ensures { λ r. ⌜ r ≡ blockOf (now (rec .entry)) ⌝ }
 {
     Child {

@@ -16,9 +16,10 @@ ghost use Prim.Native.Nat.{_+_, _-_, _^_, _≤_, _<_};
 ghost use lib.ListN.{length};
 ghost use Rattle.codec.specs.Bytes.{patch};
 ghost use Rattle.wire.specs.Encode.{headerBytes, voteBytes, blockCertificateBytes, timeoutHead, timeoutBytes, timeoutsHeadBytes, proposalHeadBytes, proposalBytes, releaseBytes};
+ghost use Rattle.wire.specs.Fields.{headerLength, voteLength, blockCertificateLength, timeoutLength, timeoutsHead, proposalHead, releaseLength};
 
 fn put_header(out: &mut [u8], at: usize, size: u32, kind: u16, sender: u16)
-    requires { ⌜ at + 8 ≤ length (now out) ⌝ }
+    requires { ⌜ at + headerLength ≤ length (now out) ⌝ }
     ensures { λ _. ⌜ now (out .exit) ≡ patch (now (out .entry)) at (headerBytes size kind sender) ⌝ }
 {
     put_u32(out, at, size);
@@ -28,7 +29,7 @@ fn put_header(out: &mut [u8], at: usize, size: u32, kind: u16, sender: u16)
 
 // A vote, kind 1, or a commit, kind 2.
 pub fn put_vote(out: &mut [u8], at: usize, kind: u16, sender: u16, vote: Vote)
-    requires { ⌜ at + 48 ≤ length (now out) ⌝ }
+    requires { ⌜ at + voteLength ≤ length (now out) ⌝ }
     ensures { λ _. ⌜ now (out .exit) ≡ patch (now (out .entry)) at (voteBytes kind sender (vote .view .0) (vote .name)) ⌝ }
 {
     let name = vote.name;
@@ -38,7 +39,7 @@ pub fn put_vote(out: &mut [u8], at: usize, kind: u16, sender: u16, vote: Vote)
 }
 
 pub fn put_block_certificate(out: &mut [u8], at: usize, sender: u16, vote: Vote, signers: u64)
-    requires { ⌜ at + 56 ≤ length (now out) ⌝ }
+    requires { ⌜ at + blockCertificateLength ≤ length (now out) ⌝ }
     ensures { λ _. ⌜ now (out .exit) ≡ patch (now (out .entry)) at (blockCertificateBytes sender (vote .view .0) (vote .name) signers) ⌝ }
 {
     let name = vote.name;
@@ -49,7 +50,7 @@ pub fn put_block_certificate(out: &mut [u8], at: usize, sender: u16, vote: Vote,
 }
 
 pub fn put_release(out: &mut [u8], at: usize, sender: u16, release: Release)
-    requires { ⌜ at + 56 ≤ length (now out) ⌝ }
+    requires { ⌜ at + releaseLength ≤ length (now out) ⌝ }
     ensures { λ _. ⌜ now (out .exit) ≡ patch (now (out .entry)) at (releaseBytes sender (release .view .0) (release .name) (release .height .0)) ⌝ }
 {
     let name = release.name;
@@ -73,7 +74,7 @@ fn put_timeout_head(out: &mut [u8], at: usize, t: Timeout)
 }
 
 pub fn put_timeout(out: &mut [u8], at: usize, t: Timeout)
-    requires { ⌜ at + 112 ≤ length (now out) ⌝ }
+    requires { ⌜ at + timeoutLength ≤ length (now out) ⌝ }
     ensures { λ _. ⌜ now (out .exit) ≡ patch (now (out .entry)) at (timeoutBytes t) ⌝ }
 {
     let carried = t.carried;
@@ -88,7 +89,7 @@ pub fn put_timeout(out: &mut [u8], at: usize, t: Timeout)
 
 // A timeout certificate before its timeouts, of which there are size bytes.
 pub fn put_timeouts_head(out: &mut [u8], at: usize, sender: u16, view: View, size: usize)
-    requires { ⌜ (at + 24 ≤ length (now out)) × (size < 2 ^ 32 - 24) ⌝ }
+    requires { ⌜ (at + timeoutsHead ≤ length (now out)) × (size < 2 ^ 32 - timeoutsHead) ⌝ }
     ensures { λ _. ⌜ now (out .exit) ≡ patch (now (out .entry)) at (timeoutsHeadBytes sender (view .0) size) ⌝ }
 {
     put_header(out, at, (length::TIMEOUTS_HEAD + size) as u32, 6, sender);
@@ -106,7 +107,7 @@ pub fn put_proposal_head(
     child: Child,
     size: usize,
 )
-    requires { ⌜ (at + 88 ≤ length (now out)) × (size < 2 ^ 32 - 88) ⌝ }
+    requires { ⌜ (at + proposalHead ≤ length (now out)) × (size < 2 ^ 32 - proposalHead) ⌝ }
     ensures { λ _. ⌜ now (out .exit) ≡ patch (now (out .entry)) at (proposalHeadBytes sender (view .0) (child .name) (child .parent) (child .height .0) size) ⌝ }
 {
     let name = child.name;
@@ -127,7 +128,7 @@ pub fn put_proposal(
     child: Child,
     progress: &[u8],
 )
-    requires { ⌜ (at + (88 + length (now progress)) ≤ length (now out)) × (length (now progress) < 2 ^ 32 - 88) ⌝ }
+    requires { ⌜ (at + (proposalHead + length (now progress)) ≤ length (now out)) × (length (now progress) < 2 ^ 32 - proposalHead) ⌝ }
     ensures { λ _. ⌜ now (out .exit) ≡ patch (now (out .entry)) at (proposalBytes sender (view .0) (child .name) (child .parent) (child .height .0) (now (progress .entry))) ⌝ }
 {
     put_proposal_head(out, at, sender, view, child, progress.len());

@@ -52,21 +52,21 @@ whole m r S = record {
     by-kind (release s v x h) f p = inr (inl (release-written s v x h f))
 
 -- ---- one replica by itself: no replica counts as honest and every claim is true, so that nothing is asked of records
-abbrev pub lone-history : History
-lone-history = record { honest = λ j. false; Voted = λ i v x. Unit {0}; Committed = λ i v x. Unit {0}; TimedOut = λ i t. Unit {0}; Placed = λ b. Unit {0} }
+abbrev pub single-history : History
+single-history = record { honest = λ j. false; Voted = λ i v x. Unit {0}; Committed = λ i v x. Unit {0}; TimedOut = λ i t. Unit {0}; Placed = λ b. Unit {0} }
 
-lone-high : (set : Settings) → HighVoted (R set lone-history)
-lone-high set i b h t q m = tt
+single-high : (set : Settings) → HighVoted (R set single-history)
+single-high set i b h t q m = tt
 
 all-free : {A : Type 0} (P : A → Type 0) (l : List A) → ((a : A) → P a) → All P l
 unfolding All
 all-free P [] f = tt
 all-free P (a ∷ l) f = (f a, all-free P l f)
 
-lone-record-in : (i : ℕ) (r : List ℕ) → RecordIn lone-history i r
-lone-record-in i r = go (content r)
+single-record-in : (i : ℕ) (r : List ℕ) → RecordIn single-history i r
+single-record-in i r = go (content r)
   where
-    go : (c : Content) → RecordOf lone-history i c
+    go : (c : Content) → RecordOf single-history i c
     go (vote j v x) = tt
     go (commit j v x) = tt
     go (certificate j k) = tt
@@ -81,36 +81,36 @@ module _ (set : Settings) (i : ℕ) where
     pub made : List (List ℕ)
     pub is : written o ≡ joined made
     pub sent : All (Sent (replicas set)) made
-    pub keeping : ReplicaInvariant set lone-history i (l ++ made) (left o)
+    pub keeping : ReplicaInvariant set single-history i (l ++ made) (left o)
 
-  lone-core : (l : List (List ℕ)) (r : Replica) (output : List ℕ) (c : Call) → CallTyped c → ReplicaInvariant set lone-history i l r → (core : Answer Work) → coreOf r (length output) c ≡ core
+  single-core : (l : List (List ℕ)) (r : Replica) (output : List ℕ) (c : Call) → CallTyped c → ReplicaInvariant set single-history i l r → (core : Answer Work) → coreOf r (length output) c ≡ core
       → Wrote l (outcome r output core)
   unfolding outcome written joined All
-  lone-core l r output c t K (accepts W) e =
-      let S = core-sound set lone-history (lone-high set) i l r K c (length output) W t e (all-free _ (stepSays (n (begin r)) (calls c)) (λ a f. absurd f)) (all-free _ (stepGives (calls c)) (λ b. tt)) in
-      let X = S .invariant (all-free (RecordIn lone-history i) (S .made) (lone-record-in i)) in
+  single-core l r output c t K (accepts W) e =
+      let S = core-sound set single-history (single-high set) i l r K c (length output) W t e (all-free _ (stepSays (n (begin r)) (calls c)) (λ a f. absurd f)) (all-free _ (stepGives (calls c)) (λ b. tt)) in
+      let X = S .invariant (all-free (RecordIn single-history i) (S .made) (single-record-in i)) in
       record {
         made = S .made;
         is = take-append-seam (W .out) (drop (length (W .out)) output) ∙ S .out-is;
         sent = all-right (Sent (replicas set)) l (S .made) (X .sent);
-        keeping = forget-out set lone-history i (l ++ S .made) W X;
+        keeping = forget-out set single-history i (l ++ S .made) W X;
       }
-  lone-core l r output c t K (refuses a) e = record { made = []; is = refl; sent = tt; keeping = rw append-nil K }
+  single-core l r output c t K (refuses a) e = record { made = []; is = refl; sent = tt; keeping = rw append-nil K }
 
-  pub lone-call : (l : List (List ℕ)) (r : Replica) (output : List ℕ) (c : Call) → CallTyped c → ReplicaInvariant set lone-history i l r → Wrote l (callOn r output c)
-  lone-call l r output c t K = subst (Wrote l) (sym (call-is r output c)) (lone-core l r output c t K (coreOf r (length output) c) refl)
+  pub single-call : (l : List (List ℕ)) (r : Replica) (output : List ℕ) (c : Call) → CallTyped c → ReplicaInvariant set single-history i l r → Wrote l (callOn r output c)
+  single-call l r output c t K = subst (Wrote l) (sym (call-is r output c)) (single-core l r output c t K (coreOf r (length output) c) refl)
 
   -- a list of calls
-  pub lone-calls : (l : List (List ℕ)) (r : Replica) (ts : List Handing) → All HandingTyped ts → ReplicaInvariant set lone-history i l r → (m : List (List ℕ)) × ReplicaInvariant set lone-history i m (after r ts)
+  pub single-calls : (l : List (List ℕ)) (r : Replica) (ts : List Handing) → All HandingTyped ts → ReplicaInvariant set single-history i l r → (m : List (List ℕ)) × ReplicaInvariant set single-history i m (after r ts)
   unfolding All after
-  lone-calls l r [] h K = (l, K)
-  lone-calls l r (t ∷ ts) h K =
-      let W = lone-call l r (t .output) (t .call) (h .0) K in
-      lone-calls (l ++ W .made) (left (callOn r (t .output) (t .call))) ts (h .1) (W .keeping)
+  single-calls l r [] h K = (l, K)
+  single-calls l r (t ∷ ts) h K =
+      let W = single-call l r (t .output) (t .call) (h .0) K in
+      single-calls (l ++ W .made) (left (callOn r (t .output) (t .call))) ts (h .1) (W .keeping)
 
   -- WHAT HOLDS OF A REPLICA that was opened as number i, on any list of calls
-  pub always : (r : Replica) → Opened set i r → (ts : List Handing) → All HandingTyped ts → (m : List (List ℕ)) × ReplicaInvariant set lone-history i m (after r ts)
-  always r O ts h = lone-calls [] r ts h (opening-establishes set lone-history i r O)
+  pub always : (r : Replica) → Opened set i r → (ts : List Handing) → All HandingTyped ts → (m : List (List ℕ)) × ReplicaInvariant set single-history i m (after r ts)
+  always r O ts h = single-calls [] r ts h (opening-establishes set single-history i r O)
 
   -- so rule D's test that a held block leads to the tip always passes: what is held and isn't the tip descends from it
   pub always-leads : (r : Replica) → Opened set i r → (ts : List Handing) → All HandingTyped ts → (b : Block) → In b (blocks (begin (after r ts)))
@@ -118,12 +118,12 @@ module _ (set : Settings) (i : ℕ) where
   always-leads r O ts h b p =
       let K = always r O ts h in
       let W = begin (after r ts) in
-      stored-descends set lone-history (K .0) (tip W) (blocks W) (K .1 .chained) b p
+      stored-descends set single-history (K .0) (tip W) (blocks W) (K .1 .chained) b p
 
   -- WHAT A CALL WRITES: whole records one after another
   pub writes-whole : (r : Replica) → Opened set i r → (ts : List Handing) → All HandingTyped ts → (output : List ℕ) (c : Call) → CallTyped c
       → (l : List (List ℕ)) × (written (callOn (after r ts) output c) ≡ joined l) × All (WholeRecord (replicas set)) l
   writes-whole r O ts h output c t =
       let K = always r O ts h in
-      let W = lone-call (K .0) (after r ts) output c t (K .1) in
+      let W = single-call (K .0) (after r ts) output c t (K .1) in
       (W .made, W .is, all-impl _ _ (W .made) (λ q s. whole (replicas set) q s) (W .sent))

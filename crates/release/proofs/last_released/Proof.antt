@@ -1,5 +1,5 @@
 use mathlib.Core.Path.{refl}
-use Rattle.release.proofs.Telling.{last-none, last-over, last-alone}
+use Rattle.release.proofs.WrittenTip.{last-none, last-over, last-alone}
 use borrow.Author.Needs.{needs}
 use native.Mathlib.Omega.{arith}
 use Rattle.release.proofs.last_released.Statement.{statement}

@@ -13,7 +13,7 @@ use Rattle.act.specs.Draft.{Ready}
 use Rattle.release.specs.Search.{standing, knownBy, noTarget, lowestTarget}
 use Rattle.release.specs.Released.{ReleasedIf, allowedOf, nextTurn, draftAt, Turned}
 use Rattle.release.proofs.Types.{Target-block}
-use Rattle.release.proofs.Telling.{proper}
+use Rattle.release.proofs.WrittenTip.{proper}
 use Rattle.release.proofs.Turning.{search-asks, if-asks, turn-asks, turn-is}
 use Rattle.blocks.specs.declared.Block.{Block}
 use Rattle.release.specs.declared.Turn.{Turn}

@@ -1,4 +1,4 @@
--- The releases that were written tell the tip: the last of them is the block that was released last, and the one before it is its parent. Assumes nothing.
+-- The tip is read off the releases that were written: the last of them is the block that was released last, and the one before it is its parent. Assumes nothing.
 use Prim.Native.Nat.{ℕ, _+_, _-_, _*_, _^_, _≤_, _<_}
 use native.Mathlib.Omega.{arith}
 use mathlib.Core.Path.{_≡_, refl, sym, ap, _∙_}

@@ -3,8 +3,8 @@ use mathlib.Core.Path.{ap, _∙_}
 use Rattle.settings.specs.declared.Settings.{Settings}
 use Rattle.settings.specs.Quorum.{replicas}
 use native.Mathlib.Omega.{arith}
-use Rattle.rules.proofs.most_voted.Statement.{statement}
-use Rattle.rules.proofs.most_voted.Tie as tie
+use Rattle.rules.proofs.smallest_voted.Statement.{statement}
+use Rattle.rules.proofs.smallest_voted.Tie as tie
 
 settings-requires : tie.Need-settings-requires
 settings-requires c κs = omega (arith, c .before .pre .0)
@@ -24,8 +24,8 @@ next-decided-requires c κs = (c .before .before .before .before .pre .0, (omega
 returns : tie.Need-returns
 returns c = voted-is _ _ (c .before .before .before .settings .ensures) (c .before .before .n .ensures) (c .before .block-quorum .ensures) (c .next-decided .ensures)
 
-pub most-voted-spec : {M : Type 1} → statement M
-most-voted-spec =
+pub smallest-voted-spec : {M : Type 1} → statement M
+smallest-voted-spec =
     tie.close
     (tie.spec
     settings-requires
