@@ -1,4 +1,7 @@
 // Rows of kept votes, commits and timeouts: one set of functions for any row and width.
+use crate::BALLOT_ROWS;
+use crate::ENTRY_PLACE;
+use crate::TIMEOUT_ROWS;
 use certificate::safe::signs;
 use certificate::signer_count;
 use codec::clear;
@@ -12,11 +15,11 @@ use wire::length;
 ghost use mathlib.Core.Path.{_≡_};
 ghost use Prim.Native.Nat.{_+_, _*_, _≤_, _<_, _^_};
 ghost use lib.ListN.{length};
-ghost use Rattle.codec.specs.Bytes.{patch};
 ghost use Rattle.settings.specs.Quorum.{largest};
+ghost use Rattle.codec.specs.Bytes.{patch};
 ghost use Rattle.codec.specs.Names.{nameLength};
 ghost use Rattle.memory.specs.Layout.{rowSize, voteRow, commitRow, timeoutRow};
-ghost use Rattle.memory.specs.Kept.{entryAt, mask, has, keptCount, kept, keep, cleared, gathered, backs, tallied, tally};
+ghost use Rattle.memory.specs.Kept.{entryAt, mask, has, keptCount, keep, cleared, gathered, backs, tallied, tally};
 
 const LARGEST: usize = Settings::LARGEST as usize;
 
@@ -24,14 +27,14 @@ const NAME_ROW: usize = 8 + 32 * LARGEST;
 
 const TIMEOUT_ROW: usize = 8 + length::TIMEOUT * LARGEST;
 
-const VOTES: usize = crate::ENTRY_PLACE + length::LONGEST_CERTIFICATE;
+const VOTES: usize = ENTRY_PLACE + length::LONGEST_CERTIFICATE;
 
-const COMMITS: usize = VOTES + NAME_ROW * crate::BALLOT_ROWS as usize;
+const COMMITS: usize = VOTES + NAME_ROW * BALLOT_ROWS as usize;
 
-const TIMEOUTS: usize = COMMITS + NAME_ROW * crate::BALLOT_ROWS as usize;
+const TIMEOUTS: usize = COMMITS + NAME_ROW * BALLOT_ROWS as usize;
 
 // Where the last row ends.
-pub const END: usize = TIMEOUTS + TIMEOUT_ROW * crate::TIMEOUT_ROWS as usize;
+pub const END: usize = TIMEOUTS + TIMEOUT_ROW * TIMEOUT_ROWS as usize;
 
 // How many replicas back a name, and which.
 pub struct Tally {
@@ -42,19 +45,19 @@ pub struct Tally {
 pub fn vote_row(view: View) -> usize
     ensures { λ r. ⌜ r ≡ voteRow (view .0) ⌝ }
 {
-    VOTES + NAME_ROW * (view.0 % crate::BALLOT_ROWS) as usize
+    VOTES + NAME_ROW * (view.0 % BALLOT_ROWS) as usize
 }
 
 pub fn commit_row(view: View) -> usize
     ensures { λ r. ⌜ r ≡ commitRow (view .0) ⌝ }
 {
-    COMMITS + NAME_ROW * (view.0 % crate::BALLOT_ROWS) as usize
+    COMMITS + NAME_ROW * (view.0 % BALLOT_ROWS) as usize
 }
 
 pub fn timeout_row(view: View) -> usize
     ensures { λ r. ⌜ r ≡ timeoutRow (view .0) ⌝ }
 {
-    TIMEOUTS + TIMEOUT_ROW * (view.0 % crate::TIMEOUT_ROWS) as usize
+    TIMEOUTS + TIMEOUT_ROW * (view.0 % TIMEOUT_ROWS) as usize
 }
 
 pub fn mask(mem: &[u8], row: usize) -> u64

@@ -1,7 +1,6 @@
 -- THE CALLS: opening, record, timer, propose, for every input (01: The box; Refusals). The core gives a refusal, or the replica's next state and the
 -- bytes written; the outcome puts them into the lent regions. Assumes nothing.
 use Prim.Native.Nat.{ℕ}
-use mathlib.Core.Bool.{Bool, not, cond}
 use mathlib.Core.List.{List, [], _∷_, _++_}
 use lib.Dec.{ltb}
 use lib.ListN.{length, drop}
@@ -14,7 +13,7 @@ use Rattle.wire.specs.Encode.{blockCertificateBytes}
 use Rattle.wire.specs.Shape.{shapeRules}
 use Rattle.wire.specs.Content.{content}
 use Rattle.blocks.specs.declared.Block.{Block}
-use Rattle.memory.specs.Layout.{memoryLength, withEntry, withBlockCount, voteRow, commitRow, timeoutRow}
+use Rattle.memory.specs.Layout.{memoryLength, withEntry, withBlockCount}
 use Rattle.memory.specs.Window.{withoutBallots, withoutTimeouts}
 use Rattle.counters.specs.declared.Counters.{Counters}
 use Rattle.counters.specs.Counters.{opened}

@@ -3,7 +3,7 @@
 use Prim.Native.Nat.{ℕ}
 use mathlib.Core.List.{List, [], _∷_}
 use Rattle.settings.specs.Answer.{Answer, accepts, refuses}
-use Rattle.protocol.specs.Calls.{Replica, Outcome, openingCall, timerCall, proposeCall}
+use Rattle.protocol.specs.Calls.{Replica, Outcome, timerCall, proposeCall}
 use Rattle.protocol.specs.OneCall.{left}
 use Rattle.protocol.specs.Example.{blockName}
 

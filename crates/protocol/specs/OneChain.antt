@@ -12,13 +12,11 @@ use Rattle.settings.specs.Answer.{Answer, accepts, refuses}
 use Rattle.settings.specs.Quorum.{replicas}
 use Rattle.codec.specs.Bytes.{IsBytes}
 use Rattle.codec.specs.Names.{zeroName}
-use Rattle.wire.specs.declared.Timeout.{Timeout}
-use Rattle.wire.specs.Fields.{lengthOf, senderOf, progressOf, slots}
+use Rattle.wire.specs.Fields.{lengthOf, progressOf, slots}
 use Rattle.wire.specs.Encode.{voteBytes}
-use Rattle.wire.specs.Content.{Certificate, byBlock, byTimeouts, timeoutOf, certificateOf, Content, vote, commit, certificate, timeout, proposal, block, release, content}
+use Rattle.wire.specs.Content.{Certificate, byBlock, byTimeouts, timeoutOf, Content, vote, commit, certificate, timeout, proposal, block, release, content}
 use Rattle.wire.specs.Fit.{All}
 use Rattle.certificate.specs.Safe.{signs}
-use Rattle.counters.specs.declared.Counters.{Counters}
 use Rattle.safety.specs.Lists.{In}
 use Rattle.safety.specs.Count.{count}
 use Rattle.safety.specs.Rows.{Begins, Linked}

@@ -7,7 +7,6 @@ use lib.ListN.{length}
 use Rattle.settings.specs.Quorum.{blockQuorum, timeoutQuorum, slowQuorum, fastQuorum}
 use Rattle.wire.specs.Encode.{blockCertificateBytes}
 use Rattle.certificate.specs.Rank.{blockCertificate, outranks}
-use Rattle.blocks.specs.declared.Block.{Block}
 use Rattle.blocks.specs.Store.{descends}
 use Rattle.memory.specs.declared.decided.Choice.{Choice}
 use Rattle.memory.specs.declared.decided.Quorums.{Quorums}

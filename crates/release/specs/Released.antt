@@ -16,7 +16,7 @@ use Rattle.protocol.specs.Refusals.{storeLength}
 use Rattle.protocol.specs.Rules.{ruleD, again}
 use Rattle.act.specs.declared.Draft.{Draft}
 use Rattle.act.specs.Draft.{workOf, left, leftBy, Ready}
-use Rattle.release.specs.Search.{knownBy, lowestTarget}
+use Rattle.release.specs.Search.{knownBy}
 use Rattle.release.specs.declared.Target.{Target}
 use Rattle.release.specs.declared.Turn.{Turn}
 

@@ -18,11 +18,7 @@ use settings::View;
 use settings::admit;
 ghost use mathlib.Core.Path.{_≡_};
 ghost use mathlib.Core.List.{List, []};
-ghost use Prim.Native.Nat.{_*_, _≤_};
-ghost use lib.ListN.{length, take, set};
-ghost use Rattle.wire.specs.Fields.{releaseLength};
-ghost use Rattle.memory.specs.Layout.{blockCountOf};
-ghost use Rattle.protocol.specs.Refusals.{storeLength};
+ghost use lib.ListN.{length, set};
 ghost use Rattle.protocol.specs.Rules.{again};
 ghost use Rattle.protocol.specs.Calls.{recordCall, timerCall, proposeCall, openingCall};
 ghost use Rattle.refusals.specs.Number.{answerOf};
@@ -112,9 +108,9 @@ pub extern "C" fn hydrangea_timer(
         ≡ repliedBy (timerCall (lentTo (now (counters .entry)) (now (mem .entry)) (now (store .entry))) (now (out .entry)) view) ⌝ }
 {
     let c = *counters;
-    let of = view_of(view);
-    let number = judge::timer(c, mem, store.len(), out.len(), of);
-    let done = perform::timer(c, mem, out, number, of);
+    let expired = view_of(view);
+    let number = judge::timer(c, mem, store.len(), out.len(), expired);
+    let done = perform::timer(c, mem, out, number, expired);
     let d = conclude(mem, store, out, done);
     *counters = d.counters;
     answer(done.refusal, d.at)

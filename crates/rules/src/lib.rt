@@ -24,7 +24,7 @@ use wire::Vote;
 use wire::length;
 use wire::write::put_block_certificate;
 ghost use mathlib.Core.Path.{_≡_};
-ghost use Prim.Native.Nat.{_+_, _*_, _≤_, _<_};
+ghost use Prim.Native.Nat.{_+_, _≤_, _<_};
 ghost use lib.ListN.{length};
 ghost use Rattle.settings.specs.Quorum.{largest, lastView, replicas};
 ghost use Rattle.wire.specs.Fields.{voteLength, blockCertificateLength, timeoutLength};
@@ -34,7 +34,7 @@ ghost use Rattle.memory.specs.Formed.{formed};
 ghost use Rattle.protocol.specs.Events.{progress};
 ghost use Rattle.protocol.specs.Rules.{ruleA, ruleB, ruleC};
 ghost use Rattle.act.specs.Draft.{Does, Ready};
-ghost use Rattle.rules.specs.Phases.{votesWanted, formsBlock, phaseA, phaseB, phaseC, phases};
+ghost use Rattle.rules.specs.Phases.{votesWanted, formsBlock};
 
 // Rule A at a view: f+1 timeouts are kept for it, and own timeout is sent.
 pub fn rule_a(mem: &mut [u8], out: &mut [u8], d: Draft, view: View) -> Draft
