@@ -2,6 +2,7 @@
 # repath.py OLD NEW PROOFS [RENAMES..]: carries the proofs of a crate over a change of its code. OLD and NEW are folders that `rt dev CRATE --generated DIR`
 # wrote before and after the change, PROOFS is the crate's folder of proofs. Each answer is kept for the need of the same name; where a thing that
 # it speaks of was bound later or earlier than before, its `.before`s are counted anew. A new need is answered by `search needs`. RENAMES: OLD=NEW of things.
+# Once for each change: a second time on the same proofs it would count anew what was counted. What it can't carry, it prints.
 import glob,os,re,sys
 old,new,proofs=sys.argv[1:4]
 renames=dict(r.split('=') for r in sys.argv[4:])
