@@ -688,7 +688,8 @@ def main():
 def whole(a, d, w):
     T, crate, name = w.T, w.crate, w.name
     own = f'Rattle.{crate}.proofs'
-    mod = lambda q: own + '.' + q.split('::')[1] if q.split('::')[0] == crate else f'Rattle.{q.split("::")[0]}.proofs.{q.split("::")[1]}'
+    within = lambda q: '.'.join(q.split('::')[1:])
+    mod = lambda q: own + '.' + within(q) if q.split('::')[0] == crate else f'Rattle.{q.split("::")[0]}.proofs.{within(q)}'
     dec = lambda q: f'Rattle.{crate}.specs.declared.{q.split("::")[1]}' if q.split('::')[0] == crate else f'Rattle.{q.split("::")[0]}.specs.declared.{q.split("::")[1]}'
     rec, dashed = d.get('measure'), name.replace('_', '-')
     self_c = alias(d['fn']) + 'ᶜ'

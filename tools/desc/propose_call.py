@@ -1,18 +1,19 @@
 {
-    'fn': 'run::propose_call',
+    'fn': 'replay::propose_call',
     'kit': 'walks',
     'local': 'Rattle.walks.proofs.Local',
     'types': {'settings': 'counters', 'wire': 'counters'},
     'params': ['cs', 'm', 'ys', 'out', 'go', 'nm', 'ans'],
     'callees': {
         'replica::hydrangea_propose': {'ens': 'replied r {w0} {w1} {w2} {w3} ≡ repliedBy (proposeCall (lentTo {0} {1} {2}) {3} ({4} .bytes))'},
-        'run::refusal_of': {'ens': 'r ≡ {0} .refusal'},
+        'replay::refusal_of': {'ens': 'r ≡ {0} .refusal'},
     },
-    'says': ['(asked-yes (is-true go yes0) (made-by r1 r0 e1 e0))', '(asked-no (is-false go no0))'],
+    'says': ['(called (lentTo cs m ys) out (propose (nm .bytes)) go ans r1 r0 (is-true go yes0) e1 e0)', '(uncalled (lentTo cs m ys) out (propose (nm .bytes)) go ans (is-false go no0))'],
     'spec': {
         'Rattle.protocol.specs.Calls': ['proposeCall'],
+        'Rattle.protocol.specs.OneCall': ['propose'],
         'Rattle.replica.specs.Reply': ['lentTo', 'replied', 'repliedBy'],
-        'Rattle.run.proofs.Moves': ['made-by', 'asked-yes', 'asked-no'],
+        'Rattle.replay.proofs.Moves': ['called', 'uncalled'],
         'Rattle.blocks.proofs.Ancestry': ['is-true', 'is-false'],
     },
 }

@@ -1,20 +1,21 @@
 {
-    'fn': 'run::record_call',
+    'fn': 'replay::record_call',
     'kit': 'walks',
     'local': 'Rattle.walks.proofs.Local',
     'types': {'settings': 'counters', 'wire': 'counters'},
-    'params': ['cs', 'm', 'ys', 'out', 'rec', 'go', 'n', 'ans'],
+    'params': ['cs', 'm', 'ys', 'out', 'inp', 'go', 'at', 'n', 'ans'],
     'callees': {
-        'run::prefix': {'ens': 'r .now ≡ take {1} {0}'},
+        'replay::input::part_of': {'ens': 'r .now ≡ part {0} {1} {2}'},
         'replica::hydrangea_record': {'ens': 'replied r {w0} {w1} {w2} {w3} ≡ repliedBy (recordCall (lentTo {0} {1} {2}) {3} {4})'},
-        'run::refusal_of': {'ens': 'r ≡ {0} .refusal'},
+        'replay::refusal_of': {'ens': 'r ≡ {0} .refusal'},
     },
-    'says': ['(asked-yes (is-true go yes0) (made-by r2 r1 e2 (e1 ∙ ap (λ (b : List ℕ). repliedBy (recordCall (lentTo cs m ys) out b)) e0)))', '(asked-no (is-false go no0))'],
+    'says': ['(called (lentTo cs m ys) out (receive (part inp at n)) go ans r2 r1 (is-true go yes0) e2 (e1 ∙ ap (λ (b : List ℕ). repliedBy (recordCall (lentTo cs m ys) out b)) e0))', '(uncalled (lentTo cs m ys) out (receive (part inp at n)) go ans (is-false go no0))'],
     'spec': {
+        'Rattle.codec.specs.Bytes': ['part'],
         'Rattle.protocol.specs.Calls': ['recordCall'],
+        'Rattle.protocol.specs.OneCall': ['receive'],
         'Rattle.replica.specs.Reply': ['lentTo', 'replied', 'repliedBy'],
-        'Rattle.run.proofs.Moves': ['made-by', 'asked-yes', 'asked-no'],
+        'Rattle.replay.proofs.Moves': ['called', 'uncalled'],
         'Rattle.blocks.proofs.Ancestry': ['is-true', 'is-false'],
-        'lib.ListN': ['take'],
     },
 }

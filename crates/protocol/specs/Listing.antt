@@ -3,27 +3,33 @@
 use Prim.Native.Nat.{ℕ}
 use mathlib.Core.List.{List, [], _∷_}
 use Rattle.settings.specs.Answer.{Answer, accepts, refuses}
+use Rattle.counters.specs.declared.Counters.{Counters}
 use Rattle.protocol.specs.Calls.{Replica, Outcome, timerCall, proposeCall}
 use Rattle.protocol.specs.OneCall.{left}
 use Rattle.protocol.specs.Example.{blockName}
 
--- "Lines: call, answer, then view, timed and tip height after it": without the call's number
+-- "Lines: call, answer, then view, timed and tip height after it"
 pub record Line : Type 0 where
+  pub call : ℕ
   pub answer : ℕ
   pub view : ℕ
   pub timed : ℕ
   pub height : ℕ
 
-abbrev pub line : ℕ → ℕ → ℕ → ℕ → Line
-line a v t h = record { answer = a; view = v; timed = t; height = h }
+abbrev pub line : ℕ → ℕ → ℕ → ℕ → ℕ → Line
+line c a v t h = record { call = c; answer = a; view = v; timed = t; height = h }
 
 -- "Answer 0 is acceptance"
 abbrev pub number : Answer ℕ → ℕ
 number (accepts k) = 0
 number (refuses a) = a
 
-abbrev pub lineOf : Outcome → Line
-lineOf o = line (number (o .reply)) (o .counters .view .0) (o .counters .timed .0) (o .counters .tip .height .0)
+-- of the call of that number, that answer, and the counters after it
+abbrev pub lineOf : ℕ → ℕ → Counters → Line
+lineOf call answer c = line call answer (c .view .0) (c .timed .0) (c .tip .height .0)
+
+abbrev pub lineAfter : ℕ → Outcome → Line
+lineAfter call o = lineOf call (number (o .reply)) (o .counters)
 
 -- the calls on a replica that was opened, each with an output region of its own
 abbrev pub linesOf : Replica → List ℕ → List ℕ → List ℕ → List ℕ → List Line
@@ -32,12 +38,12 @@ linesOf r a b c d =
     let second = timerCall (left first) b 1 in
     let third = timerCall (left second) c 1 in
     let fourth = proposeCall (left third) d blockName in
-    lineOf first ∷ lineOf second ∷ lineOf third ∷ lineOf fourth ∷ []
+    lineAfter 1 first ∷ lineAfter 2 second ∷ lineAfter 3 third ∷ lineAfter 4 fourth ∷ []
 
 abbrev pub printed : List Line
 printed =
-    line 8 1 0 0
-    ∷ line 0 1 1 0
-    ∷ line 10 1 1 0
-    ∷ line 15 1 1 0
+    line 1 8 1 0 0
+    ∷ line 2 0 1 1 0
+    ∷ line 3 10 1 1 0
+    ∷ line 4 15 1 1 0
     ∷ []

@@ -1,0 +1,6 @@
+pub mod Types
+pub mod Laws
+pub mod Cutting
+pub mod Whole
+pub mod Moves
+pub mod Listing

@@ -1,0 +1,36 @@
+use borrow.Author.Tests.{not-true, not-false}
+use borrow.Author.Tests.{lt-leb, le-leb}
+use Rattle.replay.specs.Replay.{known}
+use borrow.Author.Needs.{needs}
+use native.Mathlib.Omega.{arith}
+use Rattle.replay.proofs.input.is_known.Statement.{statement}
+use Rattle.replay.proofs.input.is_known.Tie as tie
+use Rattle.replay.proofs.input.is_known.Reads as reads
+use Rattle.replay.proofs.input.is_known.Lts as lts
+use Rattle.codec.proofs.num.u32_at.Reads as u32-at-reads
+use Rattle.replay.proofs.input.is_sized.Reads as is-sized-reads
+
+returns : tie.Need-returns
+unfolding known
+returns c = rw (lt-leb _ _ (c .if1 .taken))
+
+u32-at-requires : tie.Need-u32-at-requires
+u32-at-requires c κs = search needs
+
+cast-n : tie.Need-cast-n
+cast-n c = search needs
+
+is-sized-requires : tie.Need-is-sized-requires
+is-sized-requires c κs = search needs
+
+returns-2 : tie.Need-returns-2
+unfolding known
+returns-2 c = rw (le-leb _ _ (c .before .before .before .if1 .left), ← c .before .before .u32-at .ensures, ← c .before .is-sized .ensures, not-true (c .before .is-sized .result) (c .if2 .taken))
+
+returns-3 : tie.Need-returns-3
+unfolding known
+returns-3 c = rw (le-leb _ _ (c .before .before .before .if1 .left), ← c .before .before .u32-at .ensures, ← c .before .is-sized .ensures, not-false (c .before .is-sized .result) (c .if2 .left))
+
+pub is-known-spec : {M : Type 1} → statement M
+is-known-spec =
+    tie.close (tie.spec returns u32-at-requires cast-n is-sized-requires returns-2 returns-3)

@@ -1,0 +1,55 @@
+use Prim.Native.Nat.{_<_}
+use borrow.Author.Tests.{not-true, not-false}
+use lib.ListN.{length, drop, length-drop}
+use mathlib.Core.Path.{_≡_, _∙_, sym}
+use Rattle.codec.proofs.Laws.{part-rest}
+use Rattle.replay.specs.Requests.{requestAt}
+use Rattle.replay.proofs.Laws.{going, ready-some}
+use borrow.Author.Needs.{needs}
+use native.Mathlib.Omega.{arith}
+use Rattle.replay.proofs.input.request.Statement.{statement}
+use Rattle.replay.proofs.input.request.Tie as tie
+use Rattle.replay.proofs.input.request.Reads as reads
+use Rattle.replay.proofs.input.request.Lts as lts
+use Rattle.replay.proofs.input.front.Reads as front-reads
+use Rattle.replay.proofs.input.goes.Reads as goes-reads
+use Rattle.replay.proofs.input.nothing.Reads as nothing-reads
+
+goes-requires : tie.Need-goes-requires
+goes-requires c κs = search needs
+
+nothing-requires : tie.Need-nothing-requires
+nothing-requires c κs = search needs
+
+returns : tie.Need-returns
+unfolding requestAt
+returns c = rw (c .nothing .ensures, ← c .before .before .goes .ensures, not-true (c .before .before .goes .result) (c .before .if1 .taken))
+
+sub-front : tie.Need-sub-front
+sub-front c = let g = going (c .before .before .before .args .ended) (c .before .before .before .args .input .now) (c .before .before .before .args .room) (c .before .before .before .args .p) (sym (c .before .goes .ensures) ∙ not-false (c .before .goes .result) (c .if1 .left)) in let h = ready-some (c .before .before .before .args .ended) (drop (c .before .before .before .args .p .at) (c .before .before .before .args .input .now)) (g .piece) in omega (arith, h, length-drop (c .before .before .before .args .p .at) (c .before .before .before .args .input .now))
+
+part-front-start : tie.Need-part-front-start
+part-front-start c = let g = going (c .before .before .before .args .ended) (c .before .before .before .args .input .now) (c .before .before .before .args .room) (c .before .before .before .args .p) (sym (c .before .goes .ensures) ∙ not-false (c .before .goes .result) (c .if1 .left)) in let h = ready-some (c .before .before .before .args .ended) (drop (c .before .before .before .args .p .at) (c .before .before .before .args .input .now)) (g .piece) in omega (arith, h, length-drop (c .before .before .before .args .p .at) (c .before .before .before .args .input .now))
+
+part-front-end : tie.Need-part-front-end
+part-front-end c = search needs
+
+front-requires : tie.Need-front-requires
+front-requires c κs = search needs
+
+returns-2 : tie.Need-returns-2
+unfolding requestAt
+returns-2 c = rw (c .front .ensures, ← c .before .before .before .goes .ensures, not-false (c .before .before .before .goes .result) (c .before .before .if1 .left), part-rest)
+
+pub request-spec : {M : Type 1} → statement M
+request-spec =
+    tie.close
+    (tie.spec
+    goes-requires
+    nothing-requires
+    returns
+    sub-front
+    part-front-start
+    part-front-end
+    front-requires
+    returns-2)
