@@ -196,7 +196,7 @@ piece-taken {c₁} {c₂} {c₃} {c₄} {m₁} {m₂} {m₃} {s₁} {s₂} {s₃
         rw (after .0, after .1 .0, after .1 .1, ap (λ (z : Request). z .takes) f) (ap (λ (z : Answered). standing (z .replica) (z .output) lines at) is)
 
 -- ---- the steps of a run, by halves
-twice : (n l : ℕ) → n ≡ suc l → 2 ^ n - 1 ≡ (2 ^ l - 1) + suc (2 ^ l - 1)
+pub twice : (n l : ℕ) → n ≡ suc l → 2 ^ n - 1 ≡ (2 ^ l - 1) + suc (2 ^ l - 1)
 twice n l e = let p : 2 ^ suc l ≡ 2 * 2 ^ l = omega arith in let some = pow-pos l in ap (λ (k : ℕ). 2 ^ k - 1) e ∙ omega (arith, p, some)
 
 module _ (ended : Bool) (input : List ℕ) (room level : ℕ) (p : Place) (r : Depth) (is : r ≡ record { goes = ltb 0 level && goes ended input room p; level = level - 1 }) where

@@ -67,6 +67,12 @@ run-known {b = b} {rest = rest} {ps = ps} t c s = by (cuts-false t c)
     by (inl e) = ap (λ (qs : List Piece). run s qs) e ∙ run-append s ps (pieces (rest ++ c))
     by (inr e) = ap (λ (qs : List Piece). run s qs) (e .0) ∙ sym (run-stopped (run s ps) (pieces (rest ++ c)) (run-stops s ps (e .1)))
 
+-- of bytes at hand, whatever stands behind them: nothing does where the input has ended
+run-cuts : (ended : Bool) {b rest : List ℕ} {ps : List Piece} → Cuts ended b ps rest → (c : List ℕ) → (ended ≡ true → c ≡ []) → (s : Ran)
+    → run s (pieces (b ++ c)) ≡ run (run s ps) (pieces (rest ++ c))
+run-cuts true {b} {rest} {ps} t c nothing s = rw (nothing refl, append-nil b, append-nil rest) (run-ended t s)
+run-cuts false t c nothing s = run-known t c s
+
 -- lines that stood before stay in front, and change nothing else
 taken-after : (ls : List Line) (s : Ran) (p : Piece) → taken (followedBy ls s) p ≡ followedBy ls (taken s p)
 unfolding taken
@@ -258,9 +264,9 @@ whole-input r o lines input next k h m =
 holds-after : (s s′ : Standing) (R : Ran) → Holds s R s′ → R ≡ followedBy (R .lines) (ranFrom s′)
 holds-after s s′ R h = λ i. record { replica = sym (h .replica) i; output = sym (h .output) i; lines = sym (append-nil (R .lines)) i; next = sym (h .next) i }
 
-pub run-goes-on : (input c : List ℕ) (s s′ : Standing) (t : Stepped false input s s′)
+pub run-goes-on : (ended : Bool) (input c : List ℕ) → (ended ≡ true → c ≡ []) → (s s′ : Standing) (t : Stepped ended input s s′)
     → run (ranFrom s) (pieces (rest input s ++ c)) ≡ followedBy (run (ranFrom s) (t .taken) .lines) (run (ranFrom s′) (pieces (rest input s′ ++ c)))
-run-goes-on input c s s′ t =
+run-goes-on ended input c nothing s s′ t =
     let R : Ran = run (ranFrom s) (t .taken) in
     let qs : List Piece = pieces (rest input s′ ++ c) in
-    run-known (t .cuts) c (ranFrom s) ∙ ap (λ (x : Ran). run x qs) (holds-after s s′ R (t .holds)) ∙ run-after (R .lines) (ranFrom s′) qs
+    run-cuts ended (t .cuts) c nothing (ranFrom s) ∙ ap (λ (x : Ran). run x qs) (holds-after s s′ R (t .holds)) ∙ run-after (R .lines) (ranFrom s′) qs

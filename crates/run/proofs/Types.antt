@@ -2,75 +2,31 @@
 use Rattle.walks.proofs.Walk.LL
 use mir.Syntax.{Ty}
 use denote.RattleType.{RattleType}
-use Rattle.walks.proofs.Data.{Data, At, again, word, flag, struct}
-use Rattle.counters.proofs.Types.{Viewᴰ}
-use Rattle.replica.proofs.Types.{Nameᴰ}
-use Rattle.run.specs.declared.Request.{Request}
-use Rattle.run.proofs.Request as Requestᵐ
-use Rattle.run.proofs.Request.Laws as Request′
-use Rattle.run.specs.declared.Opening.{Opening}
-use Rattle.run.proofs.Opening as Openingᵐ
-use Rattle.run.proofs.Opening.Laws as Opening′
+use Rattle.walks.proofs.Data.{Data, At, word, flag, struct}
+use Rattle.run.specs.declared.Turn.{Turn}
+use Rattle.run.proofs.Turn as Turnᵐ
+use Rattle.run.proofs.Turn.Laws as Turn′
 use Rattle.run.specs.declared.Depth.{Depth}
 use Rattle.run.proofs.Depth as Depthᵐ
 use Rattle.run.proofs.Depth.Laws as Depth′
 
-abbrev pub Requestᴿ : RattleType
-Requestᴿ = Requestᵐ.the-row
+abbrev pub Turnᴿ : RattleType
+Turnᴿ = Turnᵐ.the-row
 
-abbrev pub Requestᵀ : Ty
-Requestᵀ = Request′.mir
+abbrev pub Turnᵀ : Ty
+Turnᵀ = Turn′.mir
 
-abbrev pub Requestᴰ : Data Requestᴿ
-Requestᴰ = struct Requestᵐ.the-type Request′.the-laws Request′.the-plain Request′.lowers
+abbrev pub Turnᴰ : Data Turnᴿ
+Turnᴰ = struct Turnᵐ.the-type Turn′.the-laws Turn′.the-plain Turn′.lowers
 
-pub Request-ended : (x : Request) → At Requestᴰ x → At flag (x .ended)
-Request-ended x is = LL.owed Requestᵐ.the-type Request′.the-laws x _ is .0
+pub Turn-have : (x : Turn) → At Turnᴰ x → At word (x .have)
+Turn-have x is = LL.owed Turnᵐ.the-type Turn′.the-laws x _ is .0
 
-pub Request-answer : (x : Request) → At Requestᴰ x → At word (x .answer)
-Request-answer x is = LL.owed Requestᵐ.the-type Request′.the-laws x _ is .1 .0
+pub Turn-ended : (x : Turn) → At Turnᴰ x → At flag (x .ended)
+Turn-ended x is = LL.owed Turnᵐ.the-type Turn′.the-laws x _ is .1 .0
 
-pub Request-timer : (x : Request) → At Requestᴰ x → At flag (x .timer)
-Request-timer x is = LL.owed Requestᵐ.the-type Request′.the-laws x _ is .1 .1 .0
-
-pub Request-view : (x : Request) → At Requestᴰ x → At Viewᴰ (x .view)
-Request-view x is = again Viewᴰ (x .view) _ (LL.owed Requestᵐ.the-type Request′.the-laws x _ is .1 .1 .1 .0)
-
-pub Request-propose : (x : Request) → At Requestᴰ x → At flag (x .propose)
-Request-propose x is = LL.owed Requestᵐ.the-type Request′.the-laws x _ is .1 .1 .1 .1 .0
-
-pub Request-name : (x : Request) → At Requestᴰ x → At Nameᴰ (x .name)
-Request-name x is = again Nameᴰ (x .name) _ (LL.owed Requestᵐ.the-type Request′.the-laws x _ is .1 .1 .1 .1 .1 .0)
-
-pub Request-record : (x : Request) → At Requestᴰ x → At flag (x .record)
-Request-record x is = LL.owed Requestᵐ.the-type Request′.the-laws x _ is .1 .1 .1 .1 .1 .1 .0
-
-pub Request-length : (x : Request) → At Requestᴰ x → At word (x .length)
-Request-length x is = LL.owed Requestᵐ.the-type Request′.the-laws x _ is .1 .1 .1 .1 .1 .1 .1 .0
-
-abbrev pub Openingᴿ : RattleType
-Openingᴿ = Openingᵐ.the-row
-
-abbrev pub Openingᵀ : Ty
-Openingᵀ = Opening′.mir
-
-abbrev pub Openingᴰ : Data Openingᴿ
-Openingᴰ = struct Openingᵐ.the-type Opening′.the-laws Opening′.the-plain Opening′.lowers
-
-pub Opening-f : (x : Opening) → At Openingᴰ x → At word (x .f)
-Opening-f x is = LL.owed Openingᵐ.the-type Opening′.the-laws x _ is .0
-
-pub Opening-c : (x : Opening) → At Openingᴰ x → At word (x .c)
-Opening-c x is = LL.owed Openingᵐ.the-type Opening′.the-laws x _ is .1 .0
-
-pub Opening-k : (x : Opening) → At Openingᴰ x → At word (x .k)
-Opening-k x is = LL.owed Openingᵐ.the-type Opening′.the-laws x _ is .1 .1 .0
-
-pub Opening-n : (x : Opening) → At Openingᴰ x → At word (x .n)
-Opening-n x is = LL.owed Openingᵐ.the-type Opening′.the-laws x _ is .1 .1 .1 .0
-
-pub Opening-own : (x : Opening) → At Openingᴰ x → At word (x .own)
-Opening-own x is = LL.owed Openingᵐ.the-type Opening′.the-laws x _ is .1 .1 .1 .1 .0
+pub Turn-next : (x : Turn) → At Turnᴰ x → At word (x .next)
+Turn-next x is = LL.owed Turnᵐ.the-type Turn′.the-laws x _ is .1 .1 .0
 
 abbrev pub Depthᴿ : RattleType
 Depthᴿ = Depthᵐ.the-row

@@ -1,28 +1,102 @@
--- What the program does to counters, memory and store: they are moved by the calls of protocol, and by nothing else. Assumes nothing.
-use Prim.Native.Nat.{ℕ}
+-- WHAT THE RUN PROGRAM DOES, turn by turn. What a read brings is free: no contract can say what the operating system hands over. Assumes nothing.
+use Prim.Native.Nat.{ℕ, zero, suc, _≤_}
 use mathlib.Core.Path.{_≡_}
-use mathlib.Core.Bool.{Bool, true, false}
-use mathlib.Core.List.{List}
-use Rattle.protocol.specs.Calls.{Replica, Outcome, recordCall, timerCall, proposeCall}
-use Rattle.replica.specs.Reply.{lentTo, replied, repliedBy}
+use mathlib.Core.Bool.{Bool, true, false, not, _&&_, _||_}
+use mathlib.Core.List.{List, [], _++_}
+use lib.Dec.{eqb, ltb}
+use lib.ListN.{length, take, drop, replicate}
+use Rattle.codec.specs.Names.{zeroName}
+use Rattle.blocks.specs.declared.Block.{Block}
+use Rattle.counters.specs.Counters.{opened}
+use Rattle.protocol.specs.Refusals.{storeLength}
+use Rattle.protocol.specs.Calls.{Replica}
+use Rattle.protocol.specs.Listing.{Line}
+use Rattle.replica.specs.Reply.{lentTo}
+use Rattle.replay.specs.declared.Opening.{Opening}
+use Rattle.replay.specs.declared.Place.{Place}
+use Rattle.replay.specs.Input.{openingLength, openingOf, pieces}
+use Rattle.replay.specs.Replay.{Ran, run, followedBy, opens, begun, known}
+use Rattle.run.specs.declared.Turn.{Turn}
 
--- what stands after a call
-abbrev pub leaves : Outcome → Replica
-leaves x = lentTo (x .counters) (x .memory) (x .store)
+-- an entry of a store that holds nothing
+abbrev pub emptyBlock : Block
+emptyBlock = record { name = zeroName; parent = zeroName; height = record { 0 = 0 } }
 
--- the answer r, what stands afterwards and the output are the outcome x
-pub record Made (r : ℕ) (p : Replica) (output : List ℕ) (x : Outcome) : Type 0 where
-  pub written : ℕ
-  pub is-outcome : replied (record { refusal = r; written = written }) (p .counters) (p .memory) (p .store) output ≡ repliedBy x
+-- ---- what is read
+-- the first record: at most its 24 bytes, which stand at the buffer's front then
+pub record FirstRead (buffer : List ℕ) (o : Opening) : Type 0 where
+  pub got : ℕ
+  pub most : got ≤ openingLength
+  pub is : o ≡ openingOf (take got buffer)
 
--- a call whose outcome is x, made where it is asked; otherwise nothing changes, and the answer before it stays
-pub record Asked (is : Bool) (before r : ℕ) (p q : Replica) (o o′ : List ℕ) (x : Outcome) : Type 0 where
-  pub made : is ≡ true → Made r q o′ x
-  pub unmade : is ≡ false → (r ≡ before) × ((q ≡ p) × (o′ ≡ o))
+-- bytes are read behind those at hand, unless the input has ended or the next piece is known; it ends where a read brings none
+pub record Refilled (t : Turn) (before : List ℕ) (u : Turn) (after : List ℕ) : Type 0 where
+  pub read : List ℕ
+  pub hand : take (u .have) after ≡ take (t .have) before ++ read
+  pub within : u .have ≤ length after
+  pub idle : (t .ended || known (take (t .have) before)) ≡ true → (read ≡ []) × (u .ended ≡ t .ended)
+  pub reads : (t .ended || known (take (t .have) before)) ≡ false → u .ended ≡ eqb (length read) 0
+  pub next : u .next ≡ t .next
 
--- any number of calls with any input, one after another, take p to the other
-pub data Runs (p : Replica) : Replica → Type 0 where
-  none : Runs p p
-  by-record : (q : Replica) (output bytes : List ℕ) → Runs p q → Runs p (leaves (recordCall q output bytes))
-  by-timer : (q : Replica) (output : List ℕ) (view : ℕ) → Runs p q → Runs p (leaves (timerCall q output view))
-  by-propose : (q : Replica) (output name : List ℕ) → Runs p q → Runs p (leaves (proposeCall q output name))
+-- what a turn has used up is dropped, and the rest stays at hand
+pub record Kept (t : Turn) (before : List ℕ) (p : Place) (u : Turn) (after : List ℕ) : Type 0 where
+  pub hand : take (u .have) after ≡ drop (p .at) (take (t .have) before)
+  pub ended : u .ended ≡ t .ended
+  pub next : u .next ≡ p .next
+
+-- ---- what stands between two turns: replica, output region, the bytes at hand, and how far the program is
+pub record Between : Type 0 where
+  pub replica : Replica
+  pub output : List ℕ
+  pub hand : List ℕ
+  pub turn : Turn
+
+abbrev pub between : Replica → List ℕ → List ℕ → Turn → Between
+between r o buffer t = record { replica = r; output = o; hand = take (t .have) buffer; turn = t }
+
+-- the run that goes on from there
+abbrev pub ranOf : Between → Ran
+ranOf x = record { replica = x .replica; output = x .output; lines = []; next = x .turn .next }
+
+-- the program goes on unless it has stopped, or the input has ended and nothing is left of it
+abbrev pub goesOn : Turn → Bool
+goesOn t = not (eqb (t .next) 0) && (not (t .ended) || ltb 0 (t .have))
+
+-- from x to y these bytes were read and these lines given: none are read once the input has ended, which it has where a read brings none. Whatever follows in
+-- the input (nothing, once it has ended), the run over all the bytes from x on is these lines, and then the run over the bytes from y on
+pub record Went (x y : Between) : Type 0 where
+  pub read : List ℕ
+  pub lines : List Line
+  pub ended : x .turn .ended ≡ true → y .turn .ended ≡ true
+  pub none : y .turn .ended ≡ true → read ≡ []
+  pub same : (rest : List ℕ) → (y .turn .ended ≡ true → rest ≡ []) → run (ranOf x) (pieces (x .hand ++ (read ++ rest))) ≡ followedBy lines (run (ranOf y) (pieces (y .hand ++ rest)))
+
+-- a turn, where the program goes on; otherwise everything stays
+pub record Turned (x y : Between) : Type 0 where
+  pub going : goesOn (x .turn) ≡ true → Went x y
+  pub over : goesOn (x .turn) ≡ false → y ≡ x
+
+-- turns one after another while the program goes on, at most so many
+pub data Turns : ℕ → Between → Between → Type 0 where
+  spent : (x : Between) → Turns zero x x
+  done : (most : ℕ) (x : Between) → goesOn (x .turn) ≡ false → Turns most x x
+  turn : (most : ℕ) (x y z : Between) → goesOn (x .turn) ≡ true → Went x y → Turns most y z → Turns (suc most) x z
+
+-- ---- the whole program, on memory, store and output region: the opening, and then turns, at most so many, the first with no byte at hand
+abbrev pub firstTurn : Ran → Between
+firstTurn b = record { replica = b .replica; output = b .output; hand = []; turn = record { have = 0; ended = false; next = b .next } }
+
+pub record Program (most : ℕ) (m : List ℕ) (s : List Block) (o m′ : List ℕ) (s′ : List Block) (o′ : List ℕ) (t : Turn) : Type 0 where
+  pub first : List ℕ
+  pub short : length first ≤ openingLength
+  pub last : Between
+  pub went : Turns most (firstTurn (begun (opens (lentTo opened m s) (openingOf first)) o)) last
+  pub memory : last .replica .memory ≡ m′
+  pub store : last .replica .store ≡ s′
+  pub output : last .output ≡ o′
+  pub turn : last .turn ≡ t
+
+-- the same with a store of its own, whose entries are empty
+pub record ProgramWithStore (most : ℕ) (m o m′ o′ : List ℕ) (t : Turn) : Type 0 where
+  pub store : List Block
+  pub program : Program most m (replicate storeLength emptyBlock) o m′ store o′ t

@@ -1,135 +1,85 @@
 // 01's run program: records on standard input, and a line for each call on standard output.
-// Promises: it is safe on any input and ends, after fewer than 2 ^ 62 calls; each call that it makes is the definition's; and nothing but calls moves
-// counters, memory and store (`Runs` of specs/Running.antt). What it reads and prints is tested, not proved. Rests on `replica` and on the kit's `io`.
-// Every decision is in a function by value; the functions over counters and store only pass them on.
-mod input;
-mod lines;
+// Promises: it is safe on any input and ends; what its replica is left with is 01's run of what it read (`Went` of specs/Running.antt, proofs/Whole.antt), turn by
+// turn: bytes are read behind those at hand, `replay` takes the pieces that are known and gives their lines, which are printed, and the rest is kept. That the
+// operating system's calls read and write what they say is assumed; the digits printed are tested. Rests on `replay` and on the kit's `io`.
+mod printing;
+mod reading;
 
 use blocks::Block;
 use blocks::STORE_LENGTH;
 use counters::Counters;
 use counters::opened;
 use refusals::regions::OUTPUT_LENGTH;
-use replica::Name;
-use replica::Reply;
+use replay::Opening;
+use replay::Place;
+use replay::begin;
+use replay::input::part_of;
+use replay::lines::LINE;
+use replay::open_call;
+use replay::run_steps;
+use replay::start;
 use settings::Height;
-use settings::View;
-use wire::length::LONGEST_RECORD;
+use wire::length::HEADER;
 ghost use mathlib.Core.Path.{_≡_};
-ghost use mathlib.Core.Bool.{true};
-ghost use Prim.Native.Nat.{_<_};
-ghost use mathlib.Core.List.{[]};
-ghost use lib.ListN.{take};
-ghost use Rattle.protocol.specs.Calls.{recordCall, timerCall, proposeCall, openingCall};
+ghost use mathlib.Core.Bool.{false, _&&_};
+ghost use Prim.Native.Nat.{_-_, _^_, _≤_};
+ghost use lib.Dec.{ltb};
+ghost use lib.ListN.{length, take};
 ghost use Rattle.replica.specs.Reply.{lentTo};
-ghost use Rattle.run.specs.Running.{Made, Asked, Runs};
+ghost use Rattle.replay.specs.Lines.{lineLength};
+ghost use Rattle.replay.specs.Replay.{standing, start, steps};
+ghost use Rattle.run.specs.Running.{emptyBlock, goesOn, between, Went, Turned, Turns, Program, ProgramWithStore};
 
-// The five numbers of the first record.
-struct Opening {
-    f: u64,
-    c: u64,
-    k: u64,
-    n: u64,
-    own: u64,
-}
+// The bytes at hand, more than the longest record has, and a line for each record that they can hold.
+const INPUT_LENGTH: usize = 8192;
 
-// What the next record asks: one call, or none and the answer. Where the input is at its end it asks nothing.
-struct Request {
+const LINES_LENGTH: usize = INPUT_LENGTH / HEADER * LINE;
+
+// What stands between two turns: how many bytes are at hand, whether the input has ended, and the number of the next call, 0 where the program has stopped.
+struct Turn {
+    have: usize,
     ended: bool,
-    answer: u64,
-    timer: bool,
-    view: View,
-    propose: bool,
-    name: Name,
-    record: bool,
-    length: usize,
+    next: u64,
 }
 
-// Whether `run_steps` goes on, and at which level.
+// Whether `run_turns` goes on, and at which level.
 struct Depth {
     goes: bool,
     level: u64,
 }
 
-// ---- functions by value. `next` is the number of the next call, or 0 where the program has stopped.
+// ---- functions by value
 
-// The header is printed first, whatever the input is.
-fn read_opening(rec: &mut [u8]) -> Opening {
-    lines::header();
-    input::opening(rec)
-}
-
-// An accepted opening prints no line.
-fn begin(refusal: u64) -> u64 {
-    if refusal == 0 {
-        return 1;
-    }
-    lines::refused();
-    0
-}
-
-fn next_request(rec: &mut [u8], next: u64) -> Request {
-    if next == 0 {
-        return input::ended();
-    }
-    input::request(rec)
-}
-
-fn refusal_of(reply: Reply) -> u64
-    ensures { λ r. ⌜ r ≡ reply .refusal ⌝ }
+// No byte is at hand.
+fn first_turn(p: Place) -> Turn
+    ensures { λ r. ⌜ r ≡ record { have = 0; ended = false; next = p .next } ⌝ }
 {
-    reply.refusal
+    Turn {
+        have: 0,
+        ended: false,
+        next: p.next,
+    }
 }
 
-// It stays at the largest u64, which no run reaches.
-fn after(call: u64) -> u64 {
-    if call < 0xffff_ffff_ffff_ffff {
-        return call + 1;
-    }
-    call
-}
-
-// The line of a call. Answer 3 stops the program, and so does the end of the input, which has no line.
-fn report(c: Counters, ended: bool, answer: u64, next: u64) -> u64 {
-    if ended {
-        return 0;
-    }
-    let tip = c.tip;
-    lines::line(next, answer, c.view, c.timed, tip.height);
-    if answer == 3 {
-        return 0;
-    }
-    after(next)
-}
-
-fn shallower(level: u64, next: u64) -> Depth
-    ensures { λ r. ⌜ (r .goes ≡ true → r .level < level) ⌝ }
+// The program goes on unless it has stopped or nothing is left of its input.
+fn further(level: u64, t: Turn) -> Depth
+    ensures { λ r. ⌜ r ≡ record { goes = ltb 0 level && goesOn t; level = level - 1 } ⌝ }
 {
-    if next != 0 {
-        if 0 < level {
-            return Depth {
-                goes: true,
-                level: level - 1,
-            };
-        }
+    if level == 0 {
+        return Depth {
+            goes: false,
+            level: 0,
+        };
     }
     Depth {
-        goes: false,
-        level: 0,
+        goes: reading::goes_on(t),
+        level: level - 1,
     }
 }
 
-// The first n bytes, or all where there are fewer.
-fn prefix<'a>(rec: &'a [u8], n: usize) -> &'a [u8]
-    ensures { λ r. ⌜ now r ≡ take n (now (rec .entry)) ⌝ }
+fn empty_block() -> Block
+    ensures { λ r. ⌜ r ≡ emptyBlock ⌝ }
 {
-    if n < rec.len() {
-        return &rec[0..n];
-    }
-    rec
-}
-
-fn empty_block() -> Block {
     Block {
         name: [0u8; 32],
         parent: [0u8; 32],
@@ -139,167 +89,124 @@ fn empty_block() -> Block {
 
 // ---- functions over counters and store
 
-// The counters are read for the line, and stay as they are.
-fn report_call(counters: &mut Counters, ended: bool, answer: u64, next: u64) -> u64
-    ensures { λ r. ⌜ now (counters .exit) ≡ now (counters .entry) ⌝ }
-{
-    let c = *counters;
-    report(c, ended, answer, next)
-}
-
-fn open_call(counters: &mut Counters, mem: &mut [u8], store: &[Block], o: Opening) -> u64
-    ensures { λ r. ⌜ Made r (lentTo (now (counters .exit)) (now (mem .exit)) (now (store .entry))) []
-        (openingCall (lentTo (now (counters .entry)) (now (mem .entry)) (now (store .entry))) (o .f) (o .c) (o .k) (o .n) (o .own)) ⌝ }
-{
-    let r = replica::hydrangea_open(counters, mem, store, o.f, o.c, o.k, o.n, o.own);
-    refusal_of(r)
-}
-
-// A call is made where the request is one, and otherwise the answer stays.
-
-fn timer_call(
+// The pieces that are known of the bytes at hand.
+fn replay_known(
     counters: &mut Counters,
     mem: &mut [u8],
     store: &mut [Block],
     out: &mut [u8],
-    is: bool,
-    view: View,
-    answer: u64,
-) -> u64
-    ensures { λ r. ⌜ Asked is answer r (lentTo (now (counters .entry)) (now (mem .entry)) (now (store .entry)))
-        (lentTo (now (counters .exit)) (now (mem .exit)) (now (store .exit))) (now (out .entry)) (now (out .exit))
-        (timerCall (lentTo (now (counters .entry)) (now (mem .entry)) (now (store .entry))) (now (out .entry)) (view .0)) ⌝ }
+    buf: &[u8],
+    lines: &mut [u8],
+    t: Turn,
+) -> Place
+    ensures { λ r. ⌜ standing (lentTo (now (counters .exit)) (now (mem .exit)) (now (store .exit))) (now (out .exit)) (now (lines .exit)) r
+        ≡ steps (t .ended) (take (t .have) (now (buf .entry))) (2 ^ 62 - 1)
+        (standing (lentTo (now (counters .entry)) (now (mem .entry)) (now (store .entry))) (now (out .entry)) (now (lines .entry)) (start (t .next))) ⌝ }
 {
-    if is {
-        let r = replica::hydrangea_timer(counters, mem, store, out, view.0);
-        refusal_of(r)
+    let input = part_of(buf, 0, t.have);
+    let p = start(t.next);
+    run_steps(counters, mem, store, out, input, lines, t.ended, 62, p)
+}
+
+// More bytes are read, the pieces that are known are taken, their lines are printed, and the rest of the bytes is kept.
+fn take_turn(
+    counters: &mut Counters,
+    mem: &mut [u8],
+    store: &mut [Block],
+    out: &mut [u8],
+    buf: &mut [u8],
+    lines: &mut [u8],
+    t: Turn,
+) -> Turn
+    ensures { λ r. ⌜ Went (between (lentTo (now (counters .entry)) (now (mem .entry)) (now (store .entry))) (now (out .entry)) (now (buf .entry)) t)
+        (between (lentTo (now (counters .exit)) (now (mem .exit)) (now (store .exit))) (now (out .exit)) (now (buf .exit)) r) ⌝ }
+{
+    let read = reading::refill(buf, t);
+    let p = replay_known(counters, mem, store, out, buf, lines, read);
+    printing::print(lines, p.filled);
+    reading::keep(buf, read, p)
+}
+
+// A turn, where the program goes on: otherwise nothing more is read.
+fn next_turn(
+    counters: &mut Counters,
+    mem: &mut [u8],
+    store: &mut [Block],
+    out: &mut [u8],
+    buf: &mut [u8],
+    lines: &mut [u8],
+    t: Turn,
+) -> Turn
+    ensures { λ r. ⌜ Turned (between (lentTo (now (counters .entry)) (now (mem .entry)) (now (store .entry))) (now (out .entry)) (now (buf .entry)) t)
+        (between (lentTo (now (counters .exit)) (now (mem .exit)) (now (store .exit))) (now (out .exit)) (now (buf .exit)) r) ⌝ }
+{
+    let going = reading::goes_on(t);
+    if going {
+        take_turn(counters, mem, store, out, buf, lines, t)
     } else {
-        answer
+        t
     }
 }
 
-fn propose_call(
+// Up to 2 ^ level - 1 turns: half of them before the middle one and half after it, as `run_steps`.
+fn run_turns(
     counters: &mut Counters,
     mem: &mut [u8],
     store: &mut [Block],
     out: &mut [u8],
-    is: bool,
-    name: Name,
-    answer: u64,
-) -> u64
-    ensures { λ r. ⌜ Asked is answer r (lentTo (now (counters .entry)) (now (mem .entry)) (now (store .entry)))
-        (lentTo (now (counters .exit)) (now (mem .exit)) (now (store .exit))) (now (out .entry)) (now (out .exit))
-        (proposeCall (lentTo (now (counters .entry)) (now (mem .entry)) (now (store .entry))) (now (out .entry)) (name .bytes)) ⌝ }
-{
-    if is {
-        let r = replica::hydrangea_propose(counters, mem, store, out, name);
-        refusal_of(r)
-    } else {
-        answer
-    }
-}
-
-fn record_call(
-    counters: &mut Counters,
-    mem: &mut [u8],
-    store: &mut [Block],
-    out: &mut [u8],
-    rec: &[u8],
-    is: bool,
-    length: usize,
-    answer: u64,
-) -> u64
-    ensures { λ r. ⌜ Asked is answer r (lentTo (now (counters .entry)) (now (mem .entry)) (now (store .entry)))
-        (lentTo (now (counters .exit)) (now (mem .exit)) (now (store .exit))) (now (out .entry)) (now (out .exit))
-        (recordCall (lentTo (now (counters .entry)) (now (mem .entry)) (now (store .entry))) (now (out .entry)) (take length (now (rec .entry)))) ⌝ }
-{
-    if is {
-        let part = prefix(rec, length);
-        let r = replica::hydrangea_record(counters, mem, store, out, part);
-        refusal_of(r)
-    } else {
-        answer
-    }
-}
-
-// One record is read, and the call that it asks is made: at most one of the three makes one.
-fn step(
-    counters: &mut Counters,
-    mem: &mut [u8],
-    store: &mut [Block],
-    out: &mut [u8],
-    rec: &mut [u8],
-    next: u64,
-) -> u64
-    ensures { λ r. ⌜ Runs (lentTo (now (counters .entry)) (now (mem .entry)) (now (store .entry)))
-        (lentTo (now (counters .exit)) (now (mem .exit)) (now (store .exit))) ⌝ }
-{
-    let asked = next_request(rec, next);
-    let timed = timer_call(
-        counters,
-        mem,
-        store,
-        out,
-        asked.timer,
-        asked.view,
-        asked.answer,
-    );
-    let proposed = propose_call(counters, mem, store, out, asked.propose, asked.name, timed);
-    let answer = record_call(
-        counters,
-        mem,
-        store,
-        out,
-        rec,
-        asked.record,
-        asked.length,
-        proposed,
-    );
-    report_call(counters, asked.ended, answer, next)
-}
-
-// Up to 2 ^ level - 1 steps: half of them before the middle one and half after it. A run of any length is then no deeper on the stack than the level.
-fn run_steps(
-    counters: &mut Counters,
-    mem: &mut [u8],
-    store: &mut [Block],
-    out: &mut [u8],
-    rec: &mut [u8],
+    buf: &mut [u8],
+    lines: &mut [u8],
     level: u64,
-    next: u64,
-) -> u64
-    ensures { λ r. ⌜ Runs (lentTo (now (counters .entry)) (now (mem .entry)) (now (store .entry)))
-        (lentTo (now (counters .exit)) (now (mem .exit)) (now (store .exit))) ⌝ }
+    t: Turn,
+) -> Turn
+    ensures { λ r. ⌜ Turns (2 ^ level - 1) (between (lentTo (now (counters .entry)) (now (mem .entry)) (now (store .entry))) (now (out .entry)) (now (buf .entry)) t)
+        (between (lentTo (now (counters .exit)) (now (mem .exit)) (now (store .exit))) (now (out .exit)) (now (buf .exit)) r) ⌝ }
 {
-    let b = shallower(level, next);
+    let b = further(level, t);
     if b.goes {
-        let early = run_steps(counters, mem, store, out, rec, b.level, next);
-        let middle = step(counters, mem, store, out, rec, early);
-        run_steps(counters, mem, store, out, rec, b.level, middle)
+        let early = run_turns(counters, mem, store, out, buf, lines, b.level, t);
+        let middle = next_turn(counters, mem, store, out, buf, lines, early);
+        run_turns(counters, mem, store, out, buf, lines, b.level, middle)
     } else {
-        next
+        t
     }
 }
 
-// ---- the regions: each as long as a call asks, and a buffer for the longest record
+// ---- the regions: each as long as a call asks, the bytes at hand, and the lines
 
-fn with_counters(mem: &mut [u8], store: &mut [Block], out: &mut [u8], rec: &mut [u8]) -> u64 {
-    let o = read_opening(rec);
+fn with_counters(
+    mem: &mut [u8],
+    store: &mut [Block],
+    out: &mut [u8],
+    buf: &mut [u8],
+    lines: &mut [u8],
+) -> Turn
+    requires { ⌜ lineLength ≤ length (now lines) ⌝ }
+    ensures { λ r. ⌜ Program (2 ^ 62 - 1) (now (mem .entry)) (now (store .entry)) (now (out .entry)) (now (mem .exit)) (now (store .exit)) (now (out .exit)) r ⌝ }
+{
+    let o = reading::first_record(buf);
     let mut c = opened();
     let refusal = open_call(&mut c, mem, store, o);
-    let next = begin(refusal);
-    run_steps(&mut c, mem, store, out, rec, 62, next)
+    let p = begin(lines, refusal);
+    printing::print(lines, p.filled);
+    let t = first_turn(p);
+    run_turns(&mut c, mem, store, out, buf, lines, 62, t)
 }
 
-fn with_store(mem: &mut [u8], out: &mut [u8], rec: &mut [u8]) -> u64 {
+fn with_store(mem: &mut [u8], out: &mut [u8], buf: &mut [u8], lines: &mut [u8]) -> Turn
+    requires { ⌜ lineLength ≤ length (now lines) ⌝ }
+    ensures { λ r. ⌜ ProgramWithStore (2 ^ 62 - 1) (now (mem .entry)) (now (out .entry)) (now (mem .exit)) (now (out .exit)) r ⌝ }
+{
     let zero = empty_block();
     let mut store = [zero; STORE_LENGTH];
-    with_counters(mem, &mut store, out, rec)
+    with_counters(mem, &mut store, out, buf, lines)
 }
 
 fn main() {
     let mut mem = [0u8; memory::LENGTH];
     let mut out = [0u8; OUTPUT_LENGTH];
-    let mut rec = [0u8; LONGEST_RECORD];
-    with_store(&mut mem, &mut out, &mut rec);
+    let mut buf = [0u8; INPUT_LENGTH];
+    let mut lines = [0u8; LINES_LENGTH];
+    printing::header();
+    with_store(&mut mem, &mut out, &mut buf, &mut lines);
 }

@@ -1,0 +1,161 @@
+-- Laws of specs/Running.antt for the walks: one turn, and turns by halves. Assumes nothing.
+use Prim.Native.Nat.{ℕ, zero, suc, _+_, _-_, _^_, _≤_, _<_}
+use native.Mathlib.Omega.{arith}
+use native.Mathlib.Nat.{zero-add, suc-add}
+use mathlib.Core.Path.{_≡_, refl, sym, ap, subst, _∙_}
+use mathlib.Core.Bool.{Bool, true, false, cond, _&&_, _||_, true≢false}
+use mathlib.Core.List.{List, [], _∷_, _++_, append-assoc}
+use borrow.Author.Tests.{ltb-true, lt-ltb, eqb-true}
+use lib.Dec.{eqb, ltb}
+use lib.ListN.{length, take, drop, replicate, length-take}
+use Rattle.codec.specs.Bytes.{part}
+use Rattle.codec.proofs.Order.{and-true}
+use Rattle.blocks.specs.declared.Block.{Block}
+use Rattle.counters.specs.declared.Counters.{Counters}
+use Rattle.protocol.specs.Refusals.{storeLength}
+use Rattle.protocol.specs.Calls.{Replica}
+use Rattle.replica.specs.Reply.{lentTo}
+use Rattle.counters.specs.Counters.{opened}
+use Rattle.replay.specs.declared.Opening.{Opening}
+use Rattle.replay.specs.declared.Place.{Place}
+use Rattle.replay.specs.Input.{openingOf, pieces}
+use Rattle.replay.specs.Lines.{refusedOpening}
+use Rattle.replay.specs.Replay.{Answered, afterAnswer, Ran, run, followedBy, opens, begun, known, Standing, standing, start, stopped, steps}
+use Rattle.replay.proofs.Moves.{twice}
+use Rattle.replay.proofs.Whole.{ranFrom, Stepped, steps-are-run, run-goes-on}
+use Rattle.run.specs.declared.Turn.{Turn}
+use Rattle.run.specs.declared.Depth.{Depth}
+use Rattle.run.specs.Running.{FirstRead, Refilled, Kept, Between, between, ranOf, goesOn, Went, Turned, Turns, spent, done, turn, firstTurn, emptyBlock, Program, ProgramWithStore}
+
+nothing-of : (l : List ℕ) → length l ≡ 0 → l ≡ []
+nothing-of [] e = refl
+nothing-of (x ∷ l) e = absurd (omega (arith, e))
+
+-- ---- one turn: bytes are read, the known pieces are taken, and the rest is kept
+module _ (p q : Replica) (o o′ lines lines′ before after kept : List ℕ) (t u v : Turn) (place : Place)
+    (fill : Refilled t before u after)
+    (steps-made : standing q o′ lines′ place ≡ steps (u .ended) (take (u .have) after) (2 ^ 62 - 1) (standing p o lines (start (u .next))))
+    (keeps : Kept u after place v kept) where
+  abbrev first : Standing
+  first = standing p o lines (start (u .next))
+
+  stepped : Stepped (u .ended) (take (u .have) after) first (standing q o′ lines′ place)
+  stepped = subst (Stepped (u .ended) (take (u .have) after) first) (sym steps-made) (steps-are-run (u .ended) (take (u .have) after) (2 ^ 62 - 1) first)
+
+  -- nothing is read where the input has ended afterwards
+  none-read : u .ended ≡ true → fill .read ≡ []
+  none-read e = by (t .ended || known (take (t .have) before)) refl
+    where
+      by : (z : Bool) → (t .ended || known (take (t .have) before)) ≡ z → fill .read ≡ []
+      by true i = fill .idle i .0
+      by false i = nothing-of (fill .read) (eqb-true (length (fill .read)) 0 (sym (fill .reads i) ∙ e))
+
+  stays-ended : t .ended ≡ true → u .ended ≡ true
+  stays-ended e = fill .idle (rw e) .1 ∙ e
+
+  same-run : (rest : List ℕ) → (v .ended ≡ true → rest ≡ [])
+      → run (ranOf (between p o before t)) (pieces (take (t .have) before ++ (fill .read ++ rest)))
+      ≡ followedBy (run (ranFrom first) (stepped .taken) .lines) (run (ranOf (between q o′ kept v)) (pieces (take (v .have) kept ++ rest)))
+  same-run rest nothing =
+      let on = run-goes-on (u .ended) (take (u .have) after) rest (λ e. nothing (keeps .ended ∙ e)) first (standing q o′ lines′ place) stepped in
+      let hand : take (t .have) before ++ (fill .read ++ rest) ≡ take (u .have) after ++ rest
+      = sym (append-assoc (take (t .have) before) (fill .read) rest) ∙ ap (λ (l : List ℕ). l ++ rest) (sym (fill .hand)) in
+      let from : ℕ → List ℕ → Ran = λ n l. run (record { replica = p; output = o; lines = []; next = n }) (pieces l) in
+      let onward : ℕ → List ℕ → Ran = λ n l. followedBy (run (ranFrom first) (stepped .taken) .lines) (run (record { replica = q; output = o′; lines = []; next = n }) (pieces (l ++ rest))) in
+      (ap (from (t .next)) hand ∙ ap (λ (n : ℕ). from n (take (u .have) after ++ rest)) (sym (fill .next)))
+      ∙ (on ∙ (ap (λ (n : ℕ). onward n (drop (place .at) (take (u .have) after))) (sym (keeps .next)) ∙ ap (onward (v .next)) (sym (keeps .hand))))
+
+  pub turn-went : Went (between p o before t) (between q o′ kept v)
+  turn-went =
+      record {
+        read = fill .read;
+        lines = run (ranFrom first) (stepped .taken) .lines;
+        ended = λ e. keeps .ended ∙ stays-ended e;
+        none = λ e. none-read (sym (keeps .ended) ∙ e);
+        same = same-run;
+      }
+
+-- the steps over the bytes at hand
+pub known-steps : {c : Counters} {m : List ℕ} {s : List Block} {o′ lines′ input : List ℕ} {r first : Place} (t : Turn) (buffer : List ℕ) (p : Replica) (o lines : List ℕ)
+    → input ≡ part buffer 0 (t .have) → first ≡ start (t .next) → standing (lentTo c m s) o′ lines′ r ≡ steps (t .ended) input (2 ^ 62 - 1) (standing p o lines first)
+    → standing (lentTo c m s) o′ lines′ r ≡ steps (t .ended) (take (t .have) buffer) (2 ^ 62 - 1) (standing p o lines (start (t .next)))
+unfolding part
+known-steps {first = first} t buffer p o lines e f is =
+    is ∙ (ap (λ (l : List ℕ). steps (t .ended) l (2 ^ 62 - 1) (standing p o lines first)) e ∙ ap (λ (z : Place). steps (t .ended) (take (t .have) buffer) (2 ^ 62 - 1) (standing p o lines z)) f)
+
+-- ---- turns by halves
+-- once the program is over, no turn is made
+over-stays : {k : ℕ} {x z : Between} → goesOn (x .turn) ≡ false → Turns k x z → z ≡ x
+over-stays n (spent x) = refl
+over-stays n (done k x m) = refl
+over-stays n (turn k x y z g w t) = absurd (true≢false (sym g ∙ n))
+
+turns-add : {j k : ℕ} {x y z : Between} → Turns j x y → Turns k y z → Turns (j + k) x z
+turns-add {k = k} {z = z} (spent x) t = subst (λ (n : ℕ). Turns n x z) (sym (zero-add k)) t
+turns-add {k = k} (done j x n) t = subst (Turns (j + k) x) (sym (over-stays n t)) (done (j + k) x n)
+turns-add {k = k} {z = z} (turn j x y w g W s) t = subst (λ (n : ℕ). Turns n x z) (sym (suc-add j k)) (turn (j + k) x y z g W (turns-add s t))
+
+one-turn : (x y : Between) → Turned x y → Turns 1 x y
+one-turn x y t = by (goesOn (x .turn)) refl
+  where
+    by : (z : Bool) → goesOn (x .turn) ≡ z → Turns 1 x y
+    by true g = turn 0 x y y g (t .going g) (spent y)
+    by false n = subst (Turns 1 x) (sym (t .over n)) (done 1 x n)
+
+pub turned-on : {x y : Between} → goesOn (x .turn) ≡ true → Went x y → Turned x y
+turned-on g w = record { going = λ _. w; over = λ n. absurd (true≢false (sym g ∙ n)) }
+
+pub turned-over : {x : Between} → goesOn (x .turn) ≡ false → Turned x x
+turned-over n = record { going = λ g. absurd (true≢false (sym g ∙ n)); over = λ _. refl }
+
+module _ (level : ℕ) (t : Turn) (r : Depth) (is : r ≡ record { goes = ltb 0 level && goesOn t; level = level - 1 }) where
+  goes-deeper : r .goes ≡ true → (0 < level) × (r .level ≡ level - 1)
+  goes-deeper y = (ltb-true 0 level (and-true (ltb 0 level) (goesOn t) (sym (ap (λ (z : Depth). z .goes) is) ∙ y) .0), ap (λ (z : Depth). z .level) is)
+
+  pub level-falls : r .goes ≡ true → r .level < level
+  level-falls y = let d = goes-deeper y in omega (arith, d .0, d .1)
+
+  pub turns-halves : {x x₁ x₂ x₃ : Between} → r .goes ≡ true → Turns (2 ^ (r .level) - 1) x x₁ → Turned x₁ x₂ → Turns (2 ^ (r .level) - 1) x₂ x₃ → Turns (2 ^ level - 1) x x₃
+  turns-halves {x} {x₁} {x₂} {x₃} y a b c =
+      let d = goes-deeper y in
+      let e = twice level (r .level) (omega (arith, d .0, d .1)) in
+      let n : 2 ^ (r .level) - 1 + (1 + (2 ^ (r .level) - 1)) ≡ 2 ^ level - 1 = omega (arith, e) in
+      subst (λ (k : ℕ). Turns k x x₃) n (turns-add a (turns-add (one-turn x₁ x₂ b) c))
+
+pub no-turns : (level : ℕ) (x : Between) (r : Depth) → r ≡ record { goes = ltb 0 level && goesOn (x .turn); level = level - 1 } → r .goes ≡ false → Turns (2 ^ level - 1) x x
+no-turns zero x r is n = spent x
+no-turns (suc l) x r is n = done (2 ^ suc l - 1) x (sym (rw (lt-ltb 0 (suc l) (omega arith))) ∙ (sym (ap (λ (z : Depth). z .goes) is) ∙ n))
+
+-- ---- the whole program
+pub program-went : {buffer : List ℕ} {o : Opening} {c₀ c₁ c₂ : Counters} {m₁ m₂ : List ℕ} {s₂ : List Block} {o₂ : List ℕ} {a : ℕ} {place : Place} {t t₂ : Turn}
+    (m : List ℕ) (s : List Block) (out last-buffer : List ℕ) → FirstRead buffer o → c₀ ≡ opened → afterAnswer a (lentTo c₁ m₁ s) [] ≡ opens (lentTo c₀ m s) o
+    → place ≡ cond (eqb a 0) (start 1) stopped → t ≡ record { have = 0; ended = false; next = place .next }
+    → Turns (2 ^ 62 - 1) (between (lentTo c₁ m₁ s) out buffer t) (between (lentTo c₂ m₂ s₂) o₂ last-buffer t₂) → Program (2 ^ 62 - 1) m s out m₂ s₂ o₂ t₂
+unfolding begun
+program-went {buffer} {o} {c₀} {c₁} {c₂} {m₁} {m₂} {s₂} {o₂} {a} {place} {t} {t₂} m s out last-buffer f e₀ e₁ e₂ e₃ turns =
+    record {
+      first = take (f .got) buffer;
+      short = omega (arith, length-take (f .got) buffer, f .most);
+      last = between (lentTo c₂ m₂ s₂) o₂ last-buffer t₂;
+      went = subst (λ (x : Between). Turns (2 ^ 62 - 1) x (between (lentTo c₂ m₂ s₂) o₂ last-buffer t₂)) (begins ∙ ap (λ (x : Answered). firstTurn (begun x out)) opened-as) turns;
+      memory = refl;
+      store = refl;
+      output = refl;
+      turn = refl;
+    }
+  where
+    opened-as : afterAnswer a (lentTo c₁ m₁ s) [] ≡ opens (lentTo opened m s) (openingOf (take (f .got) buffer))
+    opened-as = e₁ ∙ (ap (λ (c : Counters). opens (lentTo c m s) o) e₀ ∙ ap (opens (lentTo opened m s)) (f .is))
+
+    by : (z : Bool)
+        → _≡_ {A = Between} (record { replica = lentTo c₁ m₁ s; output = out; hand = []; turn = record { have = 0; ended = false; next = cond z (start 1) stopped .next } })
+        (firstTurn (cond z (record { replica = lentTo c₁ m₁ s; output = out; lines = []; next = 1 }) (record { replica = lentTo c₁ m₁ s; output = out; lines = refusedOpening ∷ []; next = 0 })))
+    by true = refl
+    by false = refl
+
+    begins : between (lentTo c₁ m₁ s) out buffer t ≡ firstTurn (begun (afterAnswer a (lentTo c₁ m₁ s) []) out)
+    begins = (ap (between (lentTo c₁ m₁ s) out buffer) (e₃ ∙ ap (λ (p : Place). record { have = 0; ended = false; next = p .next }) e₂)) ∙ by (eqb a 0)
+
+pub with-empty-store : {b : Block} {m o m′ o′ : List ℕ} {s′ : List Block} {t : Turn} → b ≡ emptyBlock → Program (2 ^ 62 - 1) m (replicate storeLength b) o m′ s′ o′ t → ProgramWithStore (2 ^ 62 - 1) m o m′ o′ t
+with-empty-store {m = m} {o = o} {m′ = m′} {o′ = o′} {s′ = s′} {t = t} e p =
+    record { store = s′; program = subst (λ (x : Block). Program (2 ^ 62 - 1) m (replicate storeLength x) o m′ s′ o′ t) e p }

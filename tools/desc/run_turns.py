@@ -1,0 +1,25 @@
+{
+    'fn': 'run::run_turns',
+    'kit': 'walks',
+    'local': 'Rattle.walks.proofs.Local',
+    'types': {'settings': 'counters', 'wire': 'counters'},
+    'about': 'It calls itself: the method of `mutual-elim`, at the level.',
+    'params': ['cs', 'm', 'ys', 'out', 'buf', 'ls', 'lv', 't'],
+    'measure': 'lv',
+    'callees': {
+        'run::further': {'ens': 'r ≡ record {{ goes = ltb 0 {0} && goesOn {1}; level = {0} - 1 }}'},
+        'run::next_turn': {'ens': 'Turned (between (lentTo {0} {1} {2}) {3} {4} {6}) (between (lentTo {w0} {w1} {w2}) {w3} {w4} r)'},
+        'run::run_turns': {'ens': 'Turns (2 ^ {6} - 1) (between (lentTo {0} {1} {2}) {3} {4} {7}) (between (lentTo {w0} {w1} {w2}) {w3} {w4} r)'},
+    },
+    'falls': ['(level-falls lv t r0 e0 (is-true (r0 .goes) yes0))', '(level-falls lv t r0 e0 (is-true (r0 .goes) yes0))'],
+    'says': ['(turns-halves lv t r0 e0 (is-true (r0 .goes) yes0) e1 e2 e3)', '(no-turns lv (between (lentTo cs m ys) out buf t) r0 e0 (is-false (r0 .goes) no0))'],
+    'spec': {
+        'lib.Dec': ['ltb'],
+        'mathlib.Core.Bool': ['_&&_'],
+        'Prim.Native.Nat': ['_-_', '_^_'],
+        'Rattle.blocks.proofs.Ancestry': ['is-true', 'is-false'],
+        'Rattle.replica.specs.Reply': ['lentTo'],
+        'Rattle.run.specs.Running': ['goesOn', 'between', 'Turned', 'Turns'],
+        'Rattle.run.proofs.Turning': ['level-falls', 'turns-halves', 'no-turns'],
+    },
+}
