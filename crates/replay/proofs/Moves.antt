@@ -24,7 +24,7 @@ use Rattle.replay.specs.declared.Opening.{Opening}
 use Rattle.replay.specs.declared.Place.{Place}
 use Rattle.replay.specs.declared.Request.{Request}
 use Rattle.replay.specs.declared.Depth.{Depth}
-use Rattle.replay.specs.Input.{timerKind, timerLength, proposeKind, proposeLength, beginsWhole, front, used, Piece, whole, broken, Asked, calls, answers, asks, asksRecord}
+use Rattle.replay.specs.Input.{timerKind, timerLength, proposeKind, proposeLength, beginsWhole, front, used, whole, broken, Asked, calls, answers, asks, asksRecord}
 use Rattle.replay.specs.Lines.{lineLength}
 use Rattle.replay.specs.Replay.{Answered, afterAnswer, answered, opens, goes, behind, withLine, Standing, standing, step, steps}
 use Rattle.replay.specs.Requests.{idle, requestOf, frontRequest, requestAt}

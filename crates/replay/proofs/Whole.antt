@@ -17,7 +17,7 @@ use Rattle.protocol.specs.Calls.{Replica}
 use Rattle.protocol.specs.Listing.{Line, lineOf}
 use Rattle.replay.specs.Input.{Piece, broken, front, used, pieces, asks}
 use Rattle.replay.specs.Lines.{nextCall, lineLength, lineBytes, linesBytes}
-use Rattle.replay.specs.Replay.{Answered, answered, Ran, taken, run, followedBy, ready, Standing, standing, start, behind, withLine, goes, step, steps}
+use Rattle.replay.specs.Replay.{Answered, answered, Ran, taken, run, followedBy, Standing, standing, start, behind, withLine, goes, step, steps}
 use Rattle.replay.specs.Cuts.{Cuts, none, more}
 use Rattle.replay.proofs.Laws.{Goes, going}
 use Rattle.replay.proofs.Cutting.{used-some, pieces-empty, pieces-step, cuts-true, cuts-false, Stops}

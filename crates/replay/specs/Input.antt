@@ -1,9 +1,9 @@
 -- THE RUN PROGRAM'S INPUT (01, Known results: "The run program reads records on standard input"): its opening, how the bytes after it are cut into records, and
 -- what each record asks. Assumes nothing.
 use Prim.Native.Nat.{ℕ, zero, suc, _+_, _*_}
-use mathlib.Core.Bool.{Bool, true, false, cond, not, _&&_, _||_}
+use mathlib.Core.Bool.{Bool, true, false, cond, _&&_}
 use mathlib.Core.List.{List, [], _∷_}
-use lib.Dec.{eqb, ltb, leb}
+use lib.Dec.{eqb, leb}
 use lib.ListN.{length, take, drop}
 use Rattle.settings.specs.Quorum.{largest}
 use Rattle.codec.specs.Bytes.{part}

@@ -12,13 +12,11 @@ use replica::Name;
 use settings::View;
 use wire::length;
 ghost use mathlib.Core.Path.{_≡_};
-ghost use mathlib.Core.Bool.{cond};
 ghost use Prim.Native.Nat.{_≤_};
 ghost use lib.ListN.{length};
 ghost use Rattle.codec.specs.Bytes.{part};
-ghost use Rattle.wire.specs.Fields.{numberAt};
-ghost use Rattle.protocol.specs.OneCall.{Call, timer, propose, receive};
-ghost use Rattle.replay.specs.Input.{wellFormed, openingOf, sized, beginsWhole, calls, answers, asksHost, asksRecord};
+ghost use Rattle.protocol.specs.OneCall.{timer, propose, receive};
+ghost use Rattle.replay.specs.Input.{wellFormed, openingOf, sized, beginsWhole, calls, answers, asksRecord};
 ghost use Rattle.replay.specs.Replay.{known, ready, goes};
 ghost use Rattle.replay.specs.Requests.{idle, requestOf, frontRequest, requestAt};
 

@@ -1,5 +1,5 @@
 -- Laws of specs/Running.antt for the walks: one turn, and turns by halves. Assumes nothing.
-use Prim.Native.Nat.{ℕ, zero, suc, _+_, _-_, _^_, _≤_, _<_}
+use Prim.Native.Nat.{ℕ, zero, suc, _+_, _-_, _^_, _<_}
 use native.Mathlib.Omega.{arith}
 use native.Mathlib.Nat.{zero-add, suc-add}
 use mathlib.Core.Path.{_≡_, refl, sym, ap, subst, _∙_}
@@ -136,12 +136,9 @@ program-went {buffer} {o} {c₀} {c₁} {c₂} {m₁} {m₂} {s₂} {o₂} {a} {
     record {
       first = take (f .got) buffer;
       short = omega (arith, length-take (f .got) buffer, f .most);
-      last = between (lentTo c₂ m₂ s₂) o₂ last-buffer t₂;
+      counters = c₂;
+      buffer = last-buffer;
       went = subst (λ (x : Between). Turns (2 ^ 62 - 1) x (between (lentTo c₂ m₂ s₂) o₂ last-buffer t₂)) (begins ∙ ap (λ (x : Answered). firstTurn (begun x out)) opened-as) turns;
-      memory = refl;
-      store = refl;
-      output = refl;
-      turn = refl;
     }
   where
     opened-as : afterAnswer a (lentTo c₁ m₁ s) [] ≡ opens (lentTo opened m s) (openingOf (take (f .got) buffer))

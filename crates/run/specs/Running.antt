@@ -7,6 +7,7 @@ use lib.Dec.{eqb, ltb}
 use lib.ListN.{length, take, drop, replicate}
 use Rattle.codec.specs.Names.{zeroName}
 use Rattle.blocks.specs.declared.Block.{Block}
+use Rattle.counters.specs.declared.Counters.{Counters}
 use Rattle.counters.specs.Counters.{opened}
 use Rattle.protocol.specs.Refusals.{storeLength}
 use Rattle.protocol.specs.Calls.{Replica}
@@ -89,12 +90,9 @@ firstTurn b = record { replica = b .replica; output = b .output; hand = []; turn
 pub record Program (most : ℕ) (m : List ℕ) (s : List Block) (o m′ : List ℕ) (s′ : List Block) (o′ : List ℕ) (t : Turn) : Type 0 where
   pub first : List ℕ
   pub short : length first ≤ openingLength
-  pub last : Between
-  pub went : Turns most (firstTurn (begun (opens (lentTo opened m s) (openingOf first)) o)) last
-  pub memory : last .replica .memory ≡ m′
-  pub store : last .replica .store ≡ s′
-  pub output : last .output ≡ o′
-  pub turn : last .turn ≡ t
+  pub counters : Counters
+  pub buffer : List ℕ
+  pub went : Turns most (firstTurn (begun (opens (lentTo opened m s) (openingOf first)) o)) (between (lentTo counters m′ s′) o′ buffer t)
 
 -- the same with a store of its own, whose entries are empty
 pub record ProgramWithStore (most : ℕ) (m o m′ o′ : List ℕ) (t : Turn) : Type 0 where

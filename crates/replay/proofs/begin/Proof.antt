@@ -1,13 +1,7 @@
 use borrow.Author.Tests.{eq-eqb, ne-eqb}
-use mathlib.Core.Path.{_≡_, refl}
 use borrow.Author.Needs.{needs}
-use native.Mathlib.Omega.{arith}
 use Rattle.replay.proofs.begin.Statement.{statement}
 use Rattle.replay.proofs.begin.Tie as tie
-use Rattle.replay.proofs.begin.Reads as reads
-use Rattle.replay.proofs.begin.Lts as lts
-use Rattle.replay.proofs.lines.put_line.Reads as put-line-reads
-use Rattle.replay.proofs.start.Reads as start-reads
 
 start-requires : tie.Need-start-requires
 start-requires c κs = search needs

@@ -1,11 +1,8 @@
 use borrow.Author.Tests.{eq-eqb, ne-eqb, lt-ltb, le-ltb}
 use Rattle.replay.specs.Lines.{nextCall}
 use borrow.Author.Needs.{needs}
-use native.Mathlib.Omega.{arith}
 use Rattle.replay.proofs.next_call.Statement.{statement}
 use Rattle.replay.proofs.next_call.Tie as tie
-use Rattle.replay.proofs.next_call.Reads as reads
-use Rattle.replay.proofs.next_call.Lts as lts
 
 returns : tie.Need-returns
 unfolding nextCall

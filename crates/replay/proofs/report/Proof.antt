@@ -1,13 +1,8 @@
 use borrow.Author.Tests.{not-true, not-false}
-use mathlib.Core.Path.{_≡_, refl}
 use borrow.Author.Needs.{needs}
 use native.Mathlib.Omega.{arith}
 use Rattle.replay.proofs.report.Statement.{statement}
 use Rattle.replay.proofs.report.Tie as tie
-use Rattle.replay.proofs.report.Reads as reads
-use Rattle.replay.proofs.report.Lts as lts
-use Rattle.replay.proofs.lines.put_line.Reads as put-line-reads
-use Rattle.replay.proofs.next_call.Reads as next-call-reads
 
 returns : tie.Need-returns
 returns c = (rw (not-true (c .before .before .args .takes) (c .if1 .taken)), rw (not-true (c .before .before .args .takes) (c .if1 .taken)))

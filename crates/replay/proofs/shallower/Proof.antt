@@ -4,9 +4,6 @@ use borrow.Author.Needs.{needs}
 use native.Mathlib.Omega.{arith}
 use Rattle.replay.proofs.shallower.Statement.{statement}
 use Rattle.replay.proofs.shallower.Tie as tie
-use Rattle.replay.proofs.shallower.Reads as reads
-use Rattle.replay.proofs.shallower.Lts as lts
-use Rattle.replay.proofs.input.goes.Reads as goes-reads
 
 returns : tie.Need-returns
 returns c = rw (c .if1 .taken)

@@ -4,9 +4,6 @@ use borrow.Author.Needs.{needs}
 use native.Mathlib.Omega.{arith}
 use Rattle.run.proofs.further.Statement.{statement}
 use Rattle.run.proofs.further.Tie as tie
-use Rattle.run.proofs.further.Reads as reads
-use Rattle.run.proofs.further.Lts as lts
-use Rattle.run.proofs.reading.goes_on.Reads as goes-on-reads
 
 returns : tie.Need-returns
 returns c = rw (c .if1 .taken)

@@ -1,4 +1,4 @@
--- `run::with_counters` meets its contract: a walk of its MIR. tools/walk.py wrote it from with_counters.py. 
+-- `run::with_counters` meets its contract: a walk of its MIR. tools/walk.py wrote it from with_counters.py.
 -- Assumes nothing.
 use Rattle.walks.proofs.Walk.{_≡_, refl, ℕ, _^_, zero, _≤_, _-_, [], _∷_, List, length, URA, fullShare, named, w64, tyInt, Val, vptr, SProp, ent, id⊢, GName, Lft, Share, ftrue, flft, Memory, Routine, Heap, Calls, Loops, WpFn, Tables, Atoms, Fun, givenOf, tables, tablesOf, Given, ‵, _⊛_, _$_, _∵_, !, qed, move, drop, split, fsplit, keep, look, init, stop, hop, fld, from, load, addr, of-opd, and-then, no-more, assigns, returns, enter, alloc1, alloc0, params1, pass1, pass0, lit}
 use Rattle.walks.proofs.Walk.{agg, whole, sub, look-in, FmC, fmOf, WpFn-mono, owns, mem, u8, sliceVal, MutSlice, Room, slice-vals, mut-slice-tells, plain, onEntry, Meets, tripleOf, Contract, Triple, calls-at, entered, cited, needs, Stays, walkOf, AllGo, Walks, walked, walk-meets, stay-slice, goes-slice, lit<, true, false}

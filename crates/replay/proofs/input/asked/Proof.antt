@@ -1,18 +1,8 @@
 use borrow.Author.Tests.{eq-eqb, ne-eqb}
 use Rattle.replay.specs.Input.{asksRecord}
 use borrow.Author.Needs.{needs}
-use native.Mathlib.Omega.{arith}
 use Rattle.replay.proofs.input.asked.Statement.{statement}
 use Rattle.replay.proofs.input.asked.Tie as tie
-use Rattle.replay.proofs.input.asked.Reads as reads
-use Rattle.replay.proofs.input.asked.Lts as lts
-use Rattle.codec.proofs.name_at.Reads as name-at-reads
-use Rattle.codec.proofs.num.u16_at.Reads as u16-at-reads
-use Rattle.codec.proofs.num.u64_at.Reads as u64-at-reads
-use Rattle.replay.proofs.input.no_call.Reads as no-call-reads
-use Rattle.replay.proofs.input.propose.Reads as propose-reads
-use Rattle.replay.proofs.input.receive.Reads as receive-reads
-use Rattle.replay.proofs.input.timer.Reads as timer-reads
 
 u16-at-requires : tie.Need-u16-at-requires
 u16-at-requires c κs = search needs

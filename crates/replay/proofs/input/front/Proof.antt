@@ -1,23 +1,14 @@
-use mathlib.Core.List.{List}
-use mathlib.Core.Path.{subst}
 use Rattle.replay.proofs.Laws.{take-from-zero}
 use borrow.Author.Tests.{not-true, not-false}
-use Prim.Native.Nat.{ℕ, _-_, _≤_}
+use Prim.Native.Nat.{_-_}
 use lib.ListN.{length, take, length-take}
 use mathlib.Core.Path.{_≡_, _∙_, sym}
 use Rattle.replay.specs.Input.{used, front}
-use Rattle.replay.specs.Requests.{frontRequest}
 use Rattle.replay.proofs.Cutting.{begins}
 use borrow.Author.Needs.{needs}
 use native.Mathlib.Omega.{arith}
 use Rattle.replay.proofs.input.front.Statement.{statement}
 use Rattle.replay.proofs.input.front.Tie as tie
-use Rattle.replay.proofs.input.front.Reads as reads
-use Rattle.replay.proofs.input.front.Lts as lts
-use Rattle.codec.proofs.num.u32_at.Reads as u32-at-reads
-use Rattle.replay.proofs.input.asked.Reads as asked-reads
-use Rattle.replay.proofs.input.begins_whole.Reads as begins-whole-reads
-use Rattle.replay.proofs.input.no_call.Reads as no-call-reads
 
 begins-whole-requires : tie.Need-begins-whole-requires
 begins-whole-requires c κs = search needs

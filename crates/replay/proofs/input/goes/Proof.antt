@@ -10,9 +10,6 @@ use borrow.Author.Needs.{needs}
 use native.Mathlib.Omega.{arith}
 use Rattle.replay.proofs.input.goes.Statement.{statement}
 use Rattle.replay.proofs.input.goes.Tie as tie
-use Rattle.replay.proofs.input.goes.Reads as reads
-use Rattle.replay.proofs.input.goes.Lts as lts
-use Rattle.replay.proofs.input.is_ready.Reads as is-ready-reads
 
 returns : tie.Need-returns
 unfolding goes

@@ -2,13 +2,8 @@ use borrow.Author.Tests.{not-true, not-false}
 use borrow.Author.Tests.{lt-leb, le-leb}
 use Rattle.replay.specs.Replay.{known}
 use borrow.Author.Needs.{needs}
-use native.Mathlib.Omega.{arith}
 use Rattle.replay.proofs.input.is_known.Statement.{statement}
 use Rattle.replay.proofs.input.is_known.Tie as tie
-use Rattle.replay.proofs.input.is_known.Reads as reads
-use Rattle.replay.proofs.input.is_known.Lts as lts
-use Rattle.codec.proofs.num.u32_at.Reads as u32-at-reads
-use Rattle.replay.proofs.input.is_sized.Reads as is-sized-reads
 
 returns : tie.Need-returns
 unfolding known

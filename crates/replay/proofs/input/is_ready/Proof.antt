@@ -1,10 +1,6 @@
 use borrow.Author.Needs.{needs}
-use native.Mathlib.Omega.{arith}
 use Rattle.replay.proofs.input.is_ready.Statement.{statement}
 use Rattle.replay.proofs.input.is_ready.Tie as tie
-use Rattle.replay.proofs.input.is_ready.Reads as reads
-use Rattle.replay.proofs.input.is_ready.Lts as lts
-use Rattle.replay.proofs.input.is_known.Reads as is-known-reads
 
 returns : tie.Need-returns
 returns c = rw (c .if1 .taken)

@@ -1,10 +1,6 @@
 use borrow.Author.Tests.{lt-leb, le-leb}
-use borrow.Author.Needs.{needs}
-use native.Mathlib.Omega.{arith}
 use Rattle.replay.proofs.input.is_sized.Statement.{statement}
 use Rattle.replay.proofs.input.is_sized.Tie as tie
-use Rattle.replay.proofs.input.is_sized.Reads as reads
-use Rattle.replay.proofs.input.is_sized.Lts as lts
 
 returns : tie.Need-returns
 returns c = rw (lt-leb _ _ (c .if1 .taken))

@@ -1,11 +1,7 @@
 use Rattle.replay.specs.Requests.{requestOf}
 use borrow.Author.Needs.{needs}
-use native.Mathlib.Omega.{arith}
 use Rattle.replay.proofs.input.no_call.Statement.{statement}
 use Rattle.replay.proofs.input.no_call.Tie as tie
-use Rattle.replay.proofs.input.no_call.Reads as reads
-use Rattle.replay.proofs.input.no_call.Lts as lts
-use Rattle.replay.proofs.input.nothing.Reads as nothing-reads
 
 nothing-requires : tie.Need-nothing-requires
 nothing-requires c κs = search needs

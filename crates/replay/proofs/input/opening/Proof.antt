@@ -6,10 +6,6 @@ use borrow.Author.Needs.{needs}
 use native.Mathlib.Omega.{arith}
 use Rattle.replay.proofs.input.opening.Statement.{statement}
 use Rattle.replay.proofs.input.opening.Tie as tie
-use Rattle.replay.proofs.input.opening.Reads as reads
-use Rattle.replay.proofs.input.opening.Lts as lts
-use Rattle.codec.proofs.num.le_at.Reads as le-at-reads
-use Rattle.replay.proofs.input.well_formed.Reads as well-formed-reads
 
 well-formed-requires : tie.Need-well-formed-requires
 well-formed-requires c κs = search needs

@@ -5,8 +5,6 @@ use borrow.Author.Needs.{needs}
 use native.Mathlib.Omega.{arith}
 use Rattle.replay.proofs.input.part_of.Statement.{statement}
 use Rattle.replay.proofs.input.part_of.Tie as tie
-use Rattle.replay.proofs.input.part_of.Reads as reads
-use Rattle.replay.proofs.input.part_of.Lts as lts
 
 sub-result : tie.Need-sub-result
 sub-result c = search needs

@@ -1,7 +1,6 @@
-use Prim.Native.Nat.{_<_}
 use borrow.Author.Tests.{not-true, not-false}
-use lib.ListN.{length, drop, length-drop}
-use mathlib.Core.Path.{_≡_, _∙_, sym}
+use lib.ListN.{drop, length-drop}
+use mathlib.Core.Path.{_∙_, sym}
 use Rattle.codec.proofs.Laws.{part-rest}
 use Rattle.replay.specs.Requests.{requestAt}
 use Rattle.replay.proofs.Laws.{going, ready-some}
@@ -9,11 +8,6 @@ use borrow.Author.Needs.{needs}
 use native.Mathlib.Omega.{arith}
 use Rattle.replay.proofs.input.request.Statement.{statement}
 use Rattle.replay.proofs.input.request.Tie as tie
-use Rattle.replay.proofs.input.request.Reads as reads
-use Rattle.replay.proofs.input.request.Lts as lts
-use Rattle.replay.proofs.input.front.Reads as front-reads
-use Rattle.replay.proofs.input.goes.Reads as goes-reads
-use Rattle.replay.proofs.input.nothing.Reads as nothing-reads
 
 goes-requires : tie.Need-goes-requires
 goes-requires c κs = search needs

@@ -1,14 +1,8 @@
 use borrow.Author.Tests.{eq-eqb, ne-eqb}
 use Rattle.replay.specs.Input.{wellFormed}
 use borrow.Author.Needs.{needs}
-use native.Mathlib.Omega.{arith}
 use Rattle.replay.proofs.input.well_formed.Statement.{statement}
 use Rattle.replay.proofs.input.well_formed.Tie as tie
-use Rattle.replay.proofs.input.well_formed.Reads as reads
-use Rattle.replay.proofs.input.well_formed.Lts as lts
-use Rattle.codec.proofs.num.le_at.Reads as le-at-reads
-use Rattle.codec.proofs.num.u16_at.Reads as u16-at-reads
-use Rattle.codec.proofs.num.u32_at.Reads as u32-at-reads
 
 returns : tie.Need-returns
 unfolding wellFormed

@@ -1,11 +1,7 @@
 use Rattle.replay.proofs.Laws.{line-put}
 use borrow.Author.Needs.{needs}
-use native.Mathlib.Omega.{arith}
 use Rattle.replay.proofs.lines.put_line.Statement.{statement}
 use Rattle.replay.proofs.lines.put_line.Tie as tie
-use Rattle.replay.proofs.lines.put_line.Reads as reads
-use Rattle.replay.proofs.lines.put_line.Lts as lts
-use Rattle.codec.proofs.num.put_u64.Reads as put-u64-reads
 
 put-u64-requires : tie.Need-put-u64-requires
 put-u64-requires c κs = search needs

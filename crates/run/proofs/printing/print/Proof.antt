@@ -1,12 +1,8 @@
 use Prim.Native.Nat.{_-_, _≤_}
 use lib.ListN.{length}
 use borrow.Author.Needs.{needs}
-use native.Mathlib.Omega.{arith}
 use Rattle.run.proofs.printing.print.Statement.{statement}
 use Rattle.run.proofs.printing.print.Tie as tie
-use Rattle.run.proofs.printing.print.Reads as reads
-use Rattle.run.proofs.printing.print.Lts as lts
-use Rattle.run.proofs.printing.print_line.Reads as print-line-reads
 
 abbrev Inv-loop : tie.InvT-loop
 Inv-loop lines filled at₀ at = at ≤ length lines

@@ -1,14 +1,8 @@
-use mathlib.Core.Path.{ap, _∙_}
-use Rattle.replay.specs.Input.{openingOf}
 use Rattle.replay.proofs.Laws.{take-from-zero}
 use borrow.Author.Needs.{needs}
 use native.Mathlib.Omega.{arith}
 use Rattle.run.proofs.reading.first_record.Statement.{statement}
 use Rattle.run.proofs.reading.first_record.Tie as tie
-use Rattle.run.proofs.reading.first_record.Reads as reads
-use Rattle.run.proofs.reading.first_record.Lts as lts
-use Rattle.io.proofs.read_full.Reads as read-full-reads
-use Rattle.replay.proofs.input.opening.Reads as opening-reads
 
 sub-opening : tie.Need-sub-opening
 sub-opening c = search needs

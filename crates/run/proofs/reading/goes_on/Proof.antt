@@ -1,10 +1,6 @@
 use borrow.Author.Tests.{eq-eqb, ne-eqb, not-true, not-false}
-use borrow.Author.Needs.{needs}
-use native.Mathlib.Omega.{arith}
 use Rattle.run.proofs.reading.goes_on.Statement.{statement}
 use Rattle.run.proofs.reading.goes_on.Tie as tie
-use Rattle.run.proofs.reading.goes_on.Reads as reads
-use Rattle.run.proofs.reading.goes_on.Lts as lts
 
 returns : tie.Need-returns
 returns c = rw (eq-eqb _ _ (c .if1 .taken))

@@ -1,4 +1,4 @@
-use mathlib.Core.Path.{_≡_, refl, sym, ap, _∙_}
+use mathlib.Core.Path.{refl, sym, ap, _∙_}
 use Prim.Native.Nat.{ℕ, _-_, _≤_}
 use mathlib.Core.List.{List}
 use lib.ListN.{length, take, length-take, drop-of-length-le}
@@ -7,9 +7,6 @@ use borrow.Author.Needs.{needs}
 use native.Mathlib.Omega.{arith}
 use Rattle.run.proofs.reading.keep.Statement.{statement}
 use Rattle.run.proofs.reading.keep.Tie as tie
-use Rattle.run.proofs.reading.keep.Reads as reads
-use Rattle.run.proofs.reading.keep.Lts as lts
-use Rattle.run.proofs.reading.move_to_front.Reads as move-to-front-reads
 
 returns : tie.Need-returns
 returns c =

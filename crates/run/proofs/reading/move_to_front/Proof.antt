@@ -8,8 +8,6 @@ use borrow.Author.Needs.{needs}
 use native.Mathlib.Omega.{arith}
 use Rattle.run.proofs.reading.move_to_front.Statement.{statement}
 use Rattle.run.proofs.reading.move_to_front.Tie as tie
-use Rattle.run.proofs.reading.move_to_front.Reads as reads
-use Rattle.run.proofs.reading.move_to_front.Lts as lts
 
 abbrev Inv-loop : tie.InvT-loop
 Inv-loop buf₀ at n i₀ buf i =

@@ -1,6 +1,5 @@
-use mathlib.Core.Path.{_≡_, refl, sym, ap, _∙_}
-use mathlib.Core.Bool.{Bool, true, false}
-use mathlib.Core.List.{List}
+use mathlib.Core.Path.{_≡_, sym, ap, _∙_}
+use mathlib.Core.Bool.{true, false}
 use Prim.Native.Nat.{ℕ}
 use lib.ListN.{take}
 use Rattle.replay.specs.Replay.{known}
@@ -10,11 +9,6 @@ use borrow.Author.Needs.{needs}
 use native.Mathlib.Omega.{arith}
 use Rattle.run.proofs.reading.refill.Statement.{statement}
 use Rattle.run.proofs.reading.refill.Tie as tie
-use Rattle.run.proofs.reading.refill.Reads as reads
-use Rattle.run.proofs.reading.refill.Lts as lts
-use Rattle.replay.proofs.input.is_known.Reads as is-known-reads
-use Rattle.run.proofs.reading.lesser.Reads as lesser-reads
-use Rattle.run.proofs.reading.read_more.Reads as read-more-reads
 
 lesser-requires : tie.Need-lesser-requires
 lesser-requires c κs = search needs
