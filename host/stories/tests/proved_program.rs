@@ -1,37 +1,17 @@
 //! The proved run program on every stored input.
 
+mod common;
+
 use std::fs;
-use std::io::Write;
-use std::path::{Path, PathBuf};
-use std::process::{Command, Stdio};
-
-/// `RUN_PROGRAM`, or the place where the prover's build leaves it.
-fn program() -> PathBuf {
-    let built = || Path::new(env!("CARGO_MANIFEST_DIR")).join("../../target/bin/run");
-    std::env::var_os("RUN_PROGRAM").map_or_else(built, PathBuf::from)
-}
-
-fn output(program: &Path, input: Vec<u8>) -> Vec<u8> {
-    let mut child = Command::new(program).stdin(Stdio::piped()).stdout(Stdio::piped()).spawn().expect("it starts");
-    let mut stdin = child.stdin.take().expect("a pipe");
-    // The program may stop before it has read everything: a broken pipe is no failure.
-    let feed = std::thread::spawn(move || drop(stdin.write_all(&input)));
-    let output = child.wait_with_output().expect("it ends");
-    feed.join().expect("the input is written");
-    assert!(output.status.success(), "{}: {}", program.display(), output.status);
-    output.stdout
-}
+use std::path::Path;
 
 #[test]
 fn the_proved_program_prints_the_stored_lines() {
-    let program = program();
-    assert!(program.exists(), "{}: there is no such program, run `rt check run` first", program.display());
     let folder = Path::new(env!("CARGO_MANIFEST_DIR")).join("../runs");
     for run in stories::runs() {
         let input = fs::read(folder.join(format!("{}.bin", run.name))).expect("a stored input");
         let expected = fs::read_to_string(folder.join(format!("{}.txt", run.name))).expect("a stored listing");
-        let printed = String::from_utf8_lossy(&output(&program, input)).into_owned();
-        assert_eq!(printed, expected, "{}", run.name);
+        assert_eq!(common::printed(&input), expected, "{}", run.name);
     }
 }
 

@@ -1,8 +1,12 @@
 //! The stored runs: written again they are the same bytes, and the oracle prints the stored lines.
 
+mod common;
+
 use std::collections::BTreeSet;
 use std::fs;
 use std::path::PathBuf;
+
+use common::answers;
 
 fn folder() -> PathBuf {
     PathBuf::from(env!("CARGO_MANIFEST_DIR")).join("../runs")
@@ -10,12 +14,6 @@ fn folder() -> PathBuf {
 
 fn stored(name: &str) -> Vec<u8> {
     fs::read(folder().join(name)).unwrap_or_else(|error| panic!("runs/{name}: {error}"))
-}
-
-/// The answers in a listing.
-fn answers(listing: &str) -> Vec<u16> {
-    let answer = |line: &str| line.split(' ').nth(1).and_then(|word| word.parse().ok());
-    listing.lines().skip(1).map(|line| answer(line).expect("an answer")).collect()
 }
 
 #[test]
