@@ -89,10 +89,12 @@ fn report(c: Counters, lines: &mut [u8], takes: bool, used: usize, answer: u64, 
         return p;
     }
     let tip = c.tip;
-    lines::put_line(lines, p.filled, p.next, answer, c.view, c.timed, tip.height);
+    let at = p.at;
+    let filled = p.filled;
+    lines::put_line(lines, filled, p.next, answer, c.view, c.timed, tip.height);
     Place {
-        at: p.at + used,
-        filled: p.filled + lines::LINE,
+        at: at + used,
+        filled: filled + lines::LINE,
         next: next_call(p.next, answer),
     }
 }
