@@ -1,16 +1,13 @@
 -- Laws of specs/Replay.antt for the walks: a call that is made or not, a piece that is taken, and the steps of a run by halves. Assumes nothing.
-use Prim.Native.Nat.{ℕ, zero, suc, _+_, _*_, _-_, _^_, _≤_, _<_}
+use Prim.Native.Nat.{ℕ, zero, suc, _+_, _-_, _^_, _≤_, _<_}
 use native.Mathlib.Omega.{arith}
 use mathlib.Core.Path.{_≡_, refl, sym, ap, subst, _∙_}
-use mathlib.Core.Bool.{Bool, true, false, cond, _&&_, true≢false}
+use mathlib.Core.Bool.{Bool, true, false, cond, true≢false}
 use mathlib.Core.List.{List, []}
-use borrow.Author.Tests.{ltb-true, lt-ltb}
-use lib.Dec.{eqb, ltb}
-use lib.Pow.{pow-pos}
+use lib.Dec.{eqb}
 use lib.ListN.{length, take, drop, length-drop}
 use Rattle.settings.specs.Answer.{Answer, accepts, refuses}
 use Rattle.codec.specs.Bytes.{part}
-use Rattle.codec.proofs.Order.{and-true}
 use Rattle.codec.specs.Names.{nameLength}
 use Rattle.wire.specs.Fields.{lengthOf, kindOf, senderOf, viewOf}
 use Rattle.blocks.specs.declared.Block.{Block}
@@ -27,10 +24,11 @@ use Rattle.replay.specs.declared.Depth.{Depth}
 use Rattle.replay.specs.Input.{timerKind, timerLength, proposeKind, proposeLength, beginsWhole, front, used, whole, broken, Asked, calls, answers, asks, asksRecord}
 use Rattle.replay.specs.Lines.{lineLength}
 use Rattle.replay.specs.Replay.{Answered, afterAnswer, answered, opens, goes, behind, withLine, Standing, standing, step, steps}
-use Rattle.replay.specs.Requests.{idle, requestOf, frontRequest, requestAt}
+use Rattle.replay.specs.Requests.{idle, requestOf, frontRequest, requestAt, deeper}
 use Rattle.replay.proofs.Laws.{going, ready-some}
 use Rattle.replay.proofs.Cutting.{used-within}
 use Rattle.replay.proofs.Whole.{steps-end, steps-add}
+use Rattle.replay.proofs.Halves.{both-halves, over-at}
 
 -- ---- calls
 -- the number of a reply is that of its answer
@@ -196,31 +194,17 @@ piece-taken {c₁} {c₂} {c₃} {c₄} {m₁} {m₂} {m₃} {s₁} {s₂} {s₃
         rw (after .0, after .1 .0, after .1 .1, ap (λ (z : Request). z .takes) f) (ap (λ (z : Answered). standing (z .replica) (z .output) lines at) is)
 
 -- ---- the steps of a run, by halves
-pub twice : (n l : ℕ) → n ≡ suc l → 2 ^ n - 1 ≡ (2 ^ l - 1) + suc (2 ^ l - 1)
-twice n l e = let p : 2 ^ suc l ≡ 2 * 2 ^ l = omega arith in let some = pow-pos l in ap (λ (k : ℕ). 2 ^ k - 1) e ∙ omega (arith, p, some)
-
-module _ (ended : Bool) (input : List ℕ) (room level : ℕ) (p : Place) (r : Depth) (is : r ≡ record { goes = ltb 0 level && goes ended input room p; level = level - 1 }) where
-  goes-deeper : r .goes ≡ true → (0 < level) × (r .level ≡ level - 1)
-  goes-deeper y = (ltb-true 0 level (and-true (ltb 0 level) (goes ended input room p) (sym (ap (λ (z : Depth). z .goes) is) ∙ y) .0), ap (λ (z : Depth). z .level) is)
-
-  pub level-falls : r .goes ≡ true → r .level < level
-  level-falls y = let d = goes-deeper y in omega (arith, d .0, d .1)
-
-  -- half of the steps, the middle one, and the other half
-  both-halves : r .goes ≡ true → 2 ^ level - 1 ≡ (2 ^ (r .level) - 1) + suc (2 ^ (r .level) - 1)
-  both-halves y = let d = goes-deeper y in twice level (r .level) (omega (arith, d .0, d .1))
-
+module _ (ended : Bool) (input : List ℕ) (level : ℕ) (g : Bool) (r : Depth) (is : r ≡ deeper level g) where
   pub halves : (s s₁ s₂ s₃ : Standing) → r .goes ≡ true → s₁ ≡ steps ended input (2 ^ (r .level) - 1) s → s₂ ≡ step ended input s₁ → s₃ ≡ steps ended input (2 ^ (r .level) - 1) s₂
       → s₃ ≡ steps ended input (2 ^ level - 1) s
   unfolding steps
   halves s s₁ s₂ s₃ y e₁ e₂ e₃ =
       e₃ ∙ (ap (λ (z : Standing). steps ended input (2 ^ (r .level) - 1) z) (e₂ ∙ ap (step ended input) e₁)
-      ∙ sym (ap (λ (k : ℕ). steps ended input k s) (both-halves y) ∙ steps-add ended input (2 ^ (r .level) - 1) (suc (2 ^ (r .level) - 1)) s))
+      ∙ sym (ap (λ (k : ℕ). steps ended input k s) (both-halves level g r is y) ∙ steps-add ended input (2 ^ (r .level) - 1) (suc (2 ^ (r .level) - 1)) s))
 
 -- no step is left, or none is to be taken
-pub no-steps : (ended : Bool) (input : List ℕ) (level : ℕ) (s : Standing) (r : Depth) → r ≡ record { goes = ltb 0 level && goes ended input (length (s .lines)) (s .place); level = level - 1 }
+pub no-steps : (ended : Bool) (input : List ℕ) (level : ℕ) (s : Standing) (g : Bool) (r : Depth) → g ≡ goes ended input (length (s .lines)) (s .place) → r ≡ deeper level g
     → r .goes ≡ false → s ≡ steps ended input (2 ^ level - 1) s
 unfolding steps
-no-steps ended input zero s r is n = refl
-no-steps ended input (suc l) s r is n =
-    sym (steps-end ended input (2 ^ suc l - 1) s (sym (rw (lt-ltb 0 (suc l) (omega arith))) ∙ (sym (ap (λ (z : Depth). z .goes) is) ∙ n)))
+no-steps ended input zero s g r e is n = refl
+no-steps ended input (suc l) s g r e is n = sym (steps-end ended input (2 ^ suc l - 1) s (sym e ∙ over-at l g r is n))

@@ -120,7 +120,7 @@ pub fn is_ready(rest: &[u8], ended: bool) -> bool
     is_known(rest)
 }
 
-pub fn goes(input: &[u8], room: usize, ended: bool, p: Place) -> bool
+pub fn goes_on(input: &[u8], room: usize, ended: bool, p: Place) -> bool
     ensures { λ r. ⌜ r ≡ goes ended (now (input .entry)) room p ⌝ }
 {
     if p.next == 0 {
@@ -236,7 +236,7 @@ fn front(rest: &[u8]) -> Request
 pub fn request(input: &[u8], room: usize, ended: bool, p: Place) -> Request
     ensures { λ r. ⌜ r ≡ requestAt ended (now (input .entry)) room p ⌝ }
 {
-    if !goes(input, room, ended, p) {
+    if !goes_on(input, room, ended, p) {
         return nothing();
     }
     let at = p.at;

@@ -12,17 +12,18 @@ use replica::Reply;
 use settings::Height;
 use settings::View;
 ghost use mathlib.Core.Path.{_≡_};
-ghost use mathlib.Core.Bool.{true, cond, _&&_};
+ghost use mathlib.Core.Bool.{true, cond};
 ghost use mathlib.Core.List.{[]};
 ghost use Prim.Native.Nat.{_+_, _-_, _^_, _≤_, _<_};
-ghost use lib.Dec.{eqb, ltb};
+ghost use lib.Dec.{eqb};
 ghost use lib.ListN.{length};
 ghost use Rattle.codec.specs.Bytes.{part, patch};
 ghost use Rattle.protocol.specs.OneCall.{receive, timer, propose};
 ghost use Rattle.replica.specs.Reply.{lentTo};
 ghost use Rattle.replay.specs.Input.{calls};
 ghost use Rattle.replay.specs.Lines.{lineLength, lineBytes, refusedOpening, nextCall};
-ghost use Rattle.replay.specs.Replay.{afterAnswer, answered, opens, start, stopped, goes, behind, withLine, standing, step, steps};
+ghost use Rattle.replay.specs.Requests.{deeper};
+ghost use Rattle.replay.specs.Replay.{afterAnswer, answered, opens, start, stopped, behind, withLine, standing, step, steps};
 
 // The first record: whether it is a well-formed opening, and its five numbers.
 pub struct Opening {
@@ -53,10 +54,10 @@ pub struct Place {
     pub next: u64,
 }
 
-// Whether `run_steps` goes on, and at which level.
-struct Depth {
-    goes: bool,
-    level: u64,
+// Whether a function that calls itself goes on, and at which level.
+pub struct Depth {
+    pub goes: bool,
+    pub level: u64,
 }
 
 // ---- functions by value
@@ -126,9 +127,9 @@ pub fn start(next: u64) -> Place
     }
 }
 
-// Half of the steps, where there is one to take.
-fn shallower(input: &[u8], room: usize, ended: bool, level: u64, p: Place) -> Depth
-    ensures { λ r. ⌜ r ≡ record { goes = ltb 0 level && goes ended (now (input .entry)) room p; level = level - 1 } ⌝ }
+// Half of what is left to do, where anything is: a row of up to 2 ^ level - 1 steps is half of them, the middle one, and the other half.
+pub fn shallower(level: u64, goes: bool) -> Depth
+    ensures { λ r. ⌜ r ≡ deeper level goes ⌝ }
 {
     if level == 0 {
         return Depth {
@@ -137,7 +138,7 @@ fn shallower(input: &[u8], room: usize, ended: bool, level: u64, p: Place) -> De
         };
     }
     Depth {
-        goes: input::goes(input, room, ended, p),
+        goes,
         level: level - 1,
     }
 }
@@ -296,7 +297,8 @@ pub fn run_steps(
     ensures { λ r. ⌜ standing (lentTo (now (counters .exit)) (now (mem .exit)) (now (store .exit))) (now (out .exit)) (now (lines .exit)) r
         ≡ steps ended (now (input .entry)) (2 ^ level - 1) (standing (lentTo (now (counters .entry)) (now (mem .entry)) (now (store .entry))) (now (out .entry)) (now (lines .entry)) p) ⌝ }
 {
-    let b = shallower(input, lines.len(), ended, level, p);
+    let going = input::goes_on(input, lines.len(), ended, p);
+    let b = shallower(level, going);
     if b.goes {
         let early = run_steps(counters, mem, store, out, input, lines, ended, b.level, p);
         let middle = take_piece(counters, mem, store, out, input, lines, ended, early);

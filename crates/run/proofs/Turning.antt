@@ -1,15 +1,14 @@
 -- Laws of specs/Running.antt for the walks: one turn, and turns by halves. Assumes nothing.
-use Prim.Native.Nat.{ℕ, zero, suc, _+_, _-_, _^_, _<_}
+use Prim.Native.Nat.{ℕ, zero, suc, _+_, _-_, _^_}
 use native.Mathlib.Omega.{arith}
 use native.Mathlib.Nat.{zero-add, suc-add}
 use mathlib.Core.Path.{_≡_, refl, sym, ap, subst, _∙_}
-use mathlib.Core.Bool.{Bool, true, false, cond, _&&_, _||_, true≢false}
+use mathlib.Core.Bool.{Bool, true, false, cond, _||_, true≢false}
 use mathlib.Core.List.{List, [], _∷_, _++_, append-assoc}
-use borrow.Author.Tests.{ltb-true, lt-ltb, eqb-true}
-use lib.Dec.{eqb, ltb}
+use borrow.Author.Tests.{eqb-true}
+use lib.Dec.{eqb}
 use lib.ListN.{length, take, drop, replicate, length-take}
 use Rattle.codec.specs.Bytes.{part}
-use Rattle.codec.proofs.Order.{and-true}
 use Rattle.blocks.specs.declared.Block.{Block}
 use Rattle.counters.specs.declared.Counters.{Counters}
 use Rattle.protocol.specs.Refusals.{storeLength}
@@ -21,10 +20,11 @@ use Rattle.replay.specs.declared.Place.{Place}
 use Rattle.replay.specs.Input.{openingOf, pieces}
 use Rattle.replay.specs.Lines.{refusedOpening}
 use Rattle.replay.specs.Replay.{Answered, afterAnswer, Ran, run, followedBy, opens, begun, known, Standing, standing, start, stopped, steps}
-use Rattle.replay.proofs.Moves.{twice}
+use Rattle.replay.specs.declared.Depth.{Depth}
+use Rattle.replay.specs.Requests.{deeper}
+use Rattle.replay.proofs.Halves.{both-halves, over-at}
 use Rattle.replay.proofs.Whole.{ranFrom, Stepped, steps-are-run, run-goes-on}
 use Rattle.run.specs.declared.Turn.{Turn}
-use Rattle.run.specs.declared.Depth.{Depth}
 use Rattle.run.specs.Running.{FirstRead, Refilled, Kept, Between, between, ranOf, goesOn, Went, Turned, Turns, spent, done, turn, firstTurn, emptyBlock, Program, ProgramWithStore}
 
 nothing-of : (l : List ℕ) → length l ≡ 0 → l ≡ []
@@ -108,23 +108,16 @@ turned-on g w = record { going = λ _. w; over = λ n. absurd (true≢false (sym
 pub turned-over : {x : Between} → goesOn (x .turn) ≡ false → Turned x x
 turned-over n = record { going = λ g. absurd (true≢false (sym g ∙ n)); over = λ _. refl }
 
-module _ (level : ℕ) (t : Turn) (r : Depth) (is : r ≡ record { goes = ltb 0 level && goesOn t; level = level - 1 }) where
-  goes-deeper : r .goes ≡ true → (0 < level) × (r .level ≡ level - 1)
-  goes-deeper y = (ltb-true 0 level (and-true (ltb 0 level) (goesOn t) (sym (ap (λ (z : Depth). z .goes) is) ∙ y) .0), ap (λ (z : Depth). z .level) is)
+pub turns-halves : {x x₁ x₂ x₃ : Between} (level : ℕ) (g : Bool) (r : Depth) → r ≡ deeper level g → r .goes ≡ true
+    → Turns (2 ^ (r .level) - 1) x x₁ → Turned x₁ x₂ → Turns (2 ^ (r .level) - 1) x₂ x₃ → Turns (2 ^ level - 1) x x₃
+turns-halves {x} {x₁} {x₂} {x₃} level g r is y a b c =
+    let e = both-halves level g r is y in
+    let n : 2 ^ (r .level) - 1 + (1 + (2 ^ (r .level) - 1)) ≡ 2 ^ level - 1 = omega (arith, e) in
+    subst (λ (k : ℕ). Turns k x x₃) n (turns-add a (turns-add (one-turn x₁ x₂ b) c))
 
-  pub level-falls : r .goes ≡ true → r .level < level
-  level-falls y = let d = goes-deeper y in omega (arith, d .0, d .1)
-
-  pub turns-halves : {x x₁ x₂ x₃ : Between} → r .goes ≡ true → Turns (2 ^ (r .level) - 1) x x₁ → Turned x₁ x₂ → Turns (2 ^ (r .level) - 1) x₂ x₃ → Turns (2 ^ level - 1) x x₃
-  turns-halves {x} {x₁} {x₂} {x₃} y a b c =
-      let d = goes-deeper y in
-      let e = twice level (r .level) (omega (arith, d .0, d .1)) in
-      let n : 2 ^ (r .level) - 1 + (1 + (2 ^ (r .level) - 1)) ≡ 2 ^ level - 1 = omega (arith, e) in
-      subst (λ (k : ℕ). Turns k x x₃) n (turns-add a (turns-add (one-turn x₁ x₂ b) c))
-
-pub no-turns : (level : ℕ) (x : Between) (r : Depth) → r ≡ record { goes = ltb 0 level && goesOn (x .turn); level = level - 1 } → r .goes ≡ false → Turns (2 ^ level - 1) x x
-no-turns zero x r is n = spent x
-no-turns (suc l) x r is n = done (2 ^ suc l - 1) x (sym (rw (lt-ltb 0 (suc l) (omega arith))) ∙ (sym (ap (λ (z : Depth). z .goes) is) ∙ n))
+pub no-turns : (level : ℕ) (x : Between) (g : Bool) (r : Depth) → g ≡ goesOn (x .turn) → r ≡ deeper level g → r .goes ≡ false → Turns (2 ^ level - 1) x x
+no-turns zero x g r e is n = spent x
+no-turns (suc l) x g r e is n = done (2 ^ suc l - 1) x (sym e ∙ over-at l g r is n)
 
 -- ---- the whole program
 pub program-went : {buffer : List ℕ} {o : Opening} {c₀ c₁ c₂ : Counters} {m₁ m₂ : List ℕ} {s₂ : List Block} {o₂ : List ℕ} {a : ℕ} {place : Place} {t t₂ : Turn}

@@ -6,9 +6,6 @@ use Rattle.walks.proofs.Data.{Data, At, word, flag, struct}
 use Rattle.run.specs.declared.Turn.{Turn}
 use Rattle.run.proofs.Turn as Turnᵐ
 use Rattle.run.proofs.Turn.Laws as Turn′
-use Rattle.run.specs.declared.Depth.{Depth}
-use Rattle.run.proofs.Depth as Depthᵐ
-use Rattle.run.proofs.Depth.Laws as Depth′
 
 abbrev pub Turnᴿ : RattleType
 Turnᴿ = Turnᵐ.the-row
@@ -27,18 +24,3 @@ Turn-ended x is = LL.owed Turnᵐ.the-type Turn′.the-laws x _ is .1 .0
 
 pub Turn-next : (x : Turn) → At Turnᴰ x → At word (x .next)
 Turn-next x is = LL.owed Turnᵐ.the-type Turn′.the-laws x _ is .1 .1 .0
-
-abbrev pub Depthᴿ : RattleType
-Depthᴿ = Depthᵐ.the-row
-
-abbrev pub Depthᵀ : Ty
-Depthᵀ = Depth′.mir
-
-abbrev pub Depthᴰ : Data Depthᴿ
-Depthᴰ = struct Depthᵐ.the-type Depth′.the-laws Depth′.the-plain Depth′.lowers
-
-pub Depth-goes : (x : Depth) → At Depthᴰ x → At flag (x .goes)
-Depth-goes x is = LL.owed Depthᵐ.the-type Depth′.the-laws x _ is .0
-
-pub Depth-level : (x : Depth) → At Depthᴰ x → At word (x .level)
-Depth-level x is = LL.owed Depthᵐ.the-type Depth′.the-laws x _ is .1 .0

@@ -17,18 +17,18 @@ use replay::input::part_of;
 use replay::lines::LINE;
 use replay::open_call;
 use replay::run_steps;
+use replay::shallower;
 use replay::start;
 use settings::Height;
 use wire::length::HEADER;
 ghost use mathlib.Core.Path.{_≡_};
-ghost use mathlib.Core.Bool.{false, _&&_};
+ghost use mathlib.Core.Bool.{false};
 ghost use Prim.Native.Nat.{_-_, _^_, _≤_};
-ghost use lib.Dec.{ltb};
 ghost use lib.ListN.{length, take};
 ghost use Rattle.replica.specs.Reply.{lentTo};
 ghost use Rattle.replay.specs.Lines.{lineLength};
 ghost use Rattle.replay.specs.Replay.{standing, start, steps};
-ghost use Rattle.run.specs.Running.{emptyBlock, goesOn, between, Went, Turned, Turns, Program, ProgramWithStore};
+ghost use Rattle.run.specs.Running.{emptyBlock, between, Went, Turned, Turns, Program, ProgramWithStore};
 
 // The bytes at hand, more than the longest record has, and a line for each record that they can hold.
 const INPUT_LENGTH: usize = 8192;
@@ -42,12 +42,6 @@ struct Turn {
     next: u64,
 }
 
-// Whether `run_turns` goes on, and at which level.
-struct Depth {
-    goes: bool,
-    level: u64,
-}
-
 // ---- functions by value
 
 // No byte is at hand.
@@ -58,22 +52,6 @@ fn first_turn(p: Place) -> Turn
         have: 0,
         ended: false,
         next: p.next,
-    }
-}
-
-// The program goes on unless it has stopped or nothing is left of its input.
-fn further(level: u64, t: Turn) -> Depth
-    ensures { λ r. ⌜ r ≡ record { goes = ltb 0 level && goesOn t; level = level - 1 } ⌝ }
-{
-    if level == 0 {
-        return Depth {
-            goes: false,
-            level: 0,
-        };
-    }
-    Depth {
-        goes: reading::goes_on(t),
-        level: level - 1,
     }
 }
 
@@ -162,7 +140,8 @@ fn run_turns(
     ensures { λ r. ⌜ Turns (2 ^ level - 1) (between (lentTo (now (counters .entry)) (now (mem .entry)) (now (store .entry))) (now (out .entry)) (now (buf .entry)) t)
         (between (lentTo (now (counters .exit)) (now (mem .exit)) (now (store .exit))) (now (out .exit)) (now (buf .exit)) r) ⌝ }
 {
-    let b = further(level, t);
+    let going = reading::goes_on(t);
+    let b = shallower(level, going);
     if b.goes {
         let early = run_turns(counters, mem, store, out, buf, lines, b.level, t);
         let middle = next_turn(counters, mem, store, out, buf, lines, early);

@@ -63,6 +63,7 @@ pub fn refill(buf: &mut [u8], t: Turn) -> Turn
     }
 }
 
+// The program goes on unless it has stopped or nothing is left of its input.
 pub fn goes_on(t: Turn) -> bool
     ensures { λ r. ⌜ r ≡ goesOn t ⌝ }
 {

@@ -8,8 +8,8 @@ use Rattle.replay.specs.Replay.{goes}
 use Rattle.codec.proofs.Laws.{part-rest}
 use borrow.Author.Needs.{needs}
 use native.Mathlib.Omega.{arith}
-use Rattle.replay.proofs.input.goes.Statement.{statement}
-use Rattle.replay.proofs.input.goes.Tie as tie
+use Rattle.replay.proofs.input.goes_on.Statement.{statement}
+use Rattle.replay.proofs.input.goes_on.Tie as tie
 
 returns : tie.Need-returns
 unfolding goes
@@ -46,8 +46,8 @@ returns-5 : tie.Need-returns-5
 unfolding goes
 returns-5 c = let h : c .before .before .before .before .before .before .before .before .before .before .args .p .filled + 40 ≤ c .before .before .before .before .before .before .before .before .before .before .args .room = omega (arith, c .before .before .before .if3 .left, c .before .before .before .before .before .if2 .left) in rw (ne-eqb _ _ (c .before .before .before .before .before .before .before .if1 .left), le-leb _ _ h, c .is-ready .ensures, part-rest)
 
-pub goes-spec : {M : Type 1} → statement M
-goes-spec =
+pub goes-on-spec : {M : Type 1} → statement M
+goes-on-spec =
     tie.close
     (tie.spec
     returns
