@@ -1,10 +1,10 @@
 -- The steps over bytes at hand are the run over the pieces that these are cut into; and over a whole input, the run over all its pieces. Assumes nothing.
-use Prim.Native.Nat.{ℕ, zero, suc, _+_, _*_, _≤_}
+use Prim.Native.Nat.{ℕ, zero, suc, _+_, _*_, _≤_, _<_}
 use mathlib.Core.Bool.{Bool, true, false, cond, not, _&&_, true≢false}
 use mathlib.Core.List.{List, [], _∷_, _++_, append-nil, append-assoc}
 use mathlib.Core.Logic.{_⊎_, inl, inr}
 use mathlib.Core.Path.{_≡_, refl, sym, ap, subst, _∙_}
-use native.Mathlib.Nat.{suc-add, zero-add}
+use native.Mathlib.Nat.{suc-add, zero-add, le-refl}
 use native.Mathlib.Omega.{arith}
 use lib.Dec.{eqb, leb, ltb}
 use lib.ListN.{length, drop, length-append, length-drop}
@@ -19,7 +19,7 @@ use Rattle.replay.specs.Input.{Piece, broken, front, used, pieces, asks}
 use Rattle.replay.specs.Lines.{nextCall, lineLength, lineBytes, linesBytes}
 use Rattle.replay.specs.Replay.{Answered, answered, Ran, taken, run, followedBy, Standing, standing, start, behind, withLine, goes, step, steps}
 use Rattle.replay.specs.Cuts.{Cuts, none, more}
-use Rattle.replay.proofs.Laws.{Goes, going}
+use Rattle.replay.proofs.Laws.{Goes, going, ready-some}
 use Rattle.replay.proofs.Cutting.{used-some, pieces-empty, pieces-step, cuts-true, cuts-false, Stops}
 
 -- ---- a run over pieces
@@ -151,6 +151,26 @@ module _ (ended : Bool) (input : List ℕ) where
   unfolding steps
   steps-add zero k s = rw (zero-add k)
   steps-add (suc j) k s = rw (suc-add j k) (steps-add j k (step ended input s))
+
+  -- the place only grows, and where a piece is to be taken it does
+  step-moves : (s : Standing) → goes ended input (length (s .lines)) (s .place) ≡ true → s .place .at < step ended input s .place .at
+  step-moves s g = rw (step-goes s g) (let u = used-some (rest input s) (ready-some ended (rest input s) (going ended input (length (s .lines)) (s .place) g .piece)) in omega (arith, u))
+
+  step-grows : (s : Standing) → s .place .at ≤ step ended input s .place .at
+  step-grows s = by (goes ended input (length (s .lines)) (s .place)) refl
+    where
+      by : (t : Bool) → goes ended input (length (s .lines)) (s .place) ≡ t → s .place .at ≤ step ended input s .place .at
+      by true g = let m = step-moves s g in omega (arith, m)
+      by false g = rw (step-ends s g) (le-refl (s .place .at))
+
+  steps-grow : (k : ℕ) (s : Standing) → s .place .at ≤ steps ended input k s .place .at
+  unfolding steps
+  steps-grow zero s = le-refl (s .place .at)
+  steps-grow (suc k) s = let a = step-grows s in let b = steps-grow k (step ended input s) in omega (arith, a, b)
+
+  pub steps-move : (k : ℕ) (s : Standing) → goes ended input (length (s .lines)) (s .place) ≡ true → s .place .at < steps ended input (suc k) s .place .at
+  unfolding steps
+  steps-move k s g = let a = step-moves s g in let b = steps-grow k (step ended input s) in omega (arith, a, b)
 
   -- a step in front
   stepped-front : (s s′ : Standing) → Goes ended input (length (s .lines)) (s .place) → Stepped (next-standing s) s′ → Stepped s s′

@@ -74,7 +74,7 @@ module _ (t : Turn) (buffer : List ℕ) (have : ℕ) (is : have ≡ min (t .have
         read = [];
         hand = same-hand ∙ sym (append-nil (take (t .have) buffer));
         within = omega (arith, is);
-        idle = λ _. (refl, e);
+        idle = λ _. (refl, (e, omega (arith, is)));
         reads = λ r. absurd (true≢false (sym idle ∙ r));
         next = refl;
       }

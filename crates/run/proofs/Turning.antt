@@ -1,14 +1,16 @@
 -- Laws of specs/Running.antt for the walks: one turn, and turns by halves. Assumes nothing.
-use Prim.Native.Nat.{ℕ, zero, suc, _+_, _-_, _^_}
+use Prim.Native.Nat.{ℕ, zero, suc, _+_, _-_, _^_, _≤_, _<_}
 use native.Mathlib.Omega.{arith}
 use native.Mathlib.Nat.{zero-add, suc-add}
 use mathlib.Core.Path.{_≡_, refl, sym, ap, subst, _∙_}
-use mathlib.Core.Bool.{Bool, true, false, cond, _||_, true≢false}
-use mathlib.Core.List.{List, [], _∷_, _++_, append-assoc}
-use borrow.Author.Tests.{eqb-true}
-use lib.Dec.{eqb}
+use mathlib.Core.Bool.{Bool, true, false, cond, not, _||_, true≢false}
+use mathlib.Core.Logic.{_⊎_, inl, inr}
+use mathlib.Core.List.{List, [], _∷_, _++_, append-nil, append-assoc}
+use borrow.Author.Tests.{eqb-true, eqb-false, not-true, le-leb, ltb-true, ltb-false}
+use lib.Dec.{eqb, ltb}
 use lib.ListN.{length, take, drop, replicate, length-take}
 use Rattle.codec.specs.Bytes.{part}
+use Rattle.codec.proofs.Order.{and-true}
 use Rattle.blocks.specs.declared.Block.{Block}
 use Rattle.counters.specs.declared.Counters.{Counters}
 use Rattle.protocol.specs.Refusals.{storeLength}
@@ -18,12 +20,13 @@ use Rattle.counters.specs.Counters.{opened}
 use Rattle.replay.specs.declared.Opening.{Opening}
 use Rattle.replay.specs.declared.Place.{Place}
 use Rattle.replay.specs.Input.{openingOf, pieces}
-use Rattle.replay.specs.Lines.{refusedOpening}
-use Rattle.replay.specs.Replay.{Answered, afterAnswer, Ran, run, followedBy, opens, begun, known, Standing, standing, start, stopped, steps}
+use Rattle.replay.specs.Lines.{lineLength, refusedOpening}
+use Rattle.replay.specs.Replay.{Answered, afterAnswer, Ran, run, followedBy, opens, begun, known, ready, goes, Standing, standing, start, stopped, steps}
 use Rattle.replay.specs.declared.Depth.{Depth}
 use Rattle.replay.specs.Requests.{deeper}
 use Rattle.replay.proofs.Halves.{both-halves, over-at}
-use Rattle.replay.proofs.Whole.{ranFrom, Stepped, steps-are-run, run-goes-on}
+use Rattle.replay.proofs.Laws.{ready-some}
+use Rattle.replay.proofs.Whole.{ranFrom, Stepped, steps-are-run, steps-move, run-goes-on}
 use Rattle.run.specs.declared.Turn.{Turn}
 use Rattle.run.specs.Running.{FirstRead, Refilled, Kept, Between, between, ranOf, goesOn, Went, Turned, Turns, spent, done, turn, firstTurn, emptyBlock, Program, ProgramWithStore}
 
@@ -35,7 +38,8 @@ nothing-of (x ∷ l) e = absurd (omega (arith, e))
 module _ (p q : Replica) (o o′ lines lines′ before after kept : List ℕ) (t u v : Turn) (place : Place)
     (fill : Refilled t before u after)
     (steps-made : standing q o′ lines′ place ≡ steps (u .ended) (take (u .have) after) (2 ^ 62 - 1) (standing p o lines (start (u .next))))
-    (keeps : Kept u after place v kept) where
+    (keeps : Kept u after place v kept)
+    (on : goesOn t ≡ true) (room : lineLength ≤ length lines) where
   abbrev first : Standing
   first = standing p o lines (start (u .next))
 
@@ -51,7 +55,7 @@ module _ (p q : Replica) (o o′ lines lines′ before after kept : List ℕ) (t
       by false i = nothing-of (fill .read) (eqb-true (length (fill .read)) 0 (sym (fill .reads i) ∙ e))
 
   stays-ended : t .ended ≡ true → u .ended ≡ true
-  stays-ended e = fill .idle (rw e) .1 ∙ e
+  stays-ended e = fill .idle (rw e) .1 .0 ∙ e
 
   same-run : (rest : List ℕ) → (v .ended ≡ true → rest ≡ [])
       → run (ranOf (between p o before t)) (pieces (take (t .have) before ++ (fill .read ++ rest)))
@@ -65,6 +69,49 @@ module _ (p q : Replica) (o o′ lines lines′ before after kept : List ℕ) (t
       (ap (from (t .next)) hand ∙ ap (λ (n : ℕ). from n (take (u .have) after ++ rest)) (sym (fill .next)))
       ∙ (on ∙ (ap (λ (n : ℕ). onward n (drop (place .at) (take (u .have) after))) (sym (keeps .next)) ∙ ap (onward (v .next)) (sym (keeps .hand))))
 
+  -- the turn gets on
+  not-stopped : eqb (u .next) 0 ≡ false
+  not-stopped = ap (λ (n : ℕ). eqb n 0) (fill .next) ∙ not-true (eqb (t .next) 0) (and-true _ _ on .0)
+
+  -- where a piece can be taken, one is, and fewer bytes are at hand
+  takes-one : ready (u .ended) (take (u .have) after) ≡ true → v .have < u .have
+  unfolding goes
+  takes-one r =
+      let g : goes (u .ended) (take (u .have) after) (length lines) (start (u .next)) ≡ true = rw (not-stopped, le-leb lineLength (length lines) room, r) in
+      let m : 0 < place .at = subst (λ (s : Standing). 0 < s .place .at) (sym steps-made) (steps-move (u .ended) (take (u .have) after) (2 ^ 62 - 2) first g) in
+      let some = ready-some (u .ended) (take (u .have) after) r in
+      omega (arith, m, some, length-take (u .have) after, keeps .have)
+
+  progress : (0 < length (fill .read)) ⊎ (((t .ended ≡ false) × (v .ended ≡ true)) ⊎ (v .have < t .have))
+  progress = by (t .ended) (known (take (t .have) before)) refl refl
+    where
+      -- the input has ended: what is left of it is taken
+      at-end : t .ended ≡ true → (z : Bool) → ltb 0 (length (take (u .have) after)) ≡ z → v .have < t .have
+      at-end e true z = let m = takes-one (rw (stays-ended e) z) in let i = fill .idle (rw e) .1 .1 in omega (arith, m, i)
+      at-end e false z =
+          let some = ltb-true 0 (t .have) (subst (λ (b : Bool). (not b || ltb 0 (t .have)) ≡ true) e (and-true (not (eqb (t .next) 0)) (not (t .ended) || ltb 0 (t .have)) on .1)) in
+          let l = ltb-false 0 (length (take (u .have) after)) z in
+          omega (arith, some, l, length-take (u .have) after, fill .within, keeps .have)
+
+      -- a piece is known: it is taken
+      at-hand : t .ended ≡ false → known (take (t .have) before) ≡ true → v .have < t .have
+      at-hand e k =
+          let i = fill .idle (rw (e, k)) in
+          let h : take (u .have) after ≡ take (t .have) before = fill .hand ∙ (ap (λ (l : List ℕ). take (t .have) before ++ l) (i .0) ∙ append-nil (take (t .have) before)) in
+          let m = takes-one (rw (i .1 .0 ∙ e) (ap known h ∙ k)) in
+          omega (arith, m, i .1 .1)
+
+      -- more is read, or nothing is left to read
+      reading : t .ended ≡ false → known (take (t .have) before) ≡ false → (z : Bool) → eqb (length (fill .read)) 0 ≡ z
+          → (0 < length (fill .read)) ⊎ (((t .ended ≡ false) × (v .ended ≡ true)) ⊎ (v .have < t .have))
+      reading e k true z = inr (inl (e, keeps .ended ∙ (fill .reads (rw (e, k)) ∙ z)))
+      reading e k false z = inl (let n = eqb-false (length (fill .read)) 0 z in omega (arith, n))
+
+      by : (a b : Bool) → t .ended ≡ a → known (take (t .have) before) ≡ b → (0 < length (fill .read)) ⊎ (((t .ended ≡ false) × (v .ended ≡ true)) ⊎ (v .have < t .have))
+      by true b e k = inr (inr (at-end e (ltb 0 (length (take (u .have) after))) refl))
+      by false true e k = inr (inr (at-hand e k))
+      by false false e k = reading e k (eqb (length (fill .read)) 0) refl
+
   pub turn-went : Went (between p o before t) (between q o′ kept v)
   turn-went =
       record {
@@ -73,6 +120,7 @@ module _ (p q : Replica) (o o′ lines lines′ before after kept : List ℕ) (t
         ended = λ e. keeps .ended ∙ stays-ended e;
         none = λ e. none-read (sym (keeps .ended) ∙ e);
         same = same-run;
+        gets-on = progress;
       }
 
 -- the steps over the bytes at hand

@@ -1,8 +1,9 @@
 -- WHAT THE RUN PROGRAM DOES, turn by turn. What a read brings is free: no contract can say what the operating system hands over. Assumes nothing.
-use Prim.Native.Nat.{ℕ, zero, suc, _≤_}
+use Prim.Native.Nat.{ℕ, zero, suc, _-_, _≤_, _<_}
 use mathlib.Core.Path.{_≡_}
 use mathlib.Core.Bool.{Bool, true, false, not, _&&_, _||_}
 use mathlib.Core.List.{List, [], _++_}
+use mathlib.Core.Logic.{_⊎_}
 use lib.Dec.{eqb, ltb}
 use lib.ListN.{length, take, drop, replicate}
 use Rattle.codec.specs.Names.{zeroName}
@@ -35,13 +36,14 @@ pub record Refilled (t : Turn) (before : List ℕ) (u : Turn) (after : List ℕ)
   pub read : List ℕ
   pub hand : take (u .have) after ≡ take (t .have) before ++ read
   pub within : u .have ≤ length after
-  pub idle : (t .ended || known (take (t .have) before)) ≡ true → (read ≡ []) × (u .ended ≡ t .ended)
+  pub idle : (t .ended || known (take (t .have) before)) ≡ true → (read ≡ []) × ((u .ended ≡ t .ended) × (u .have ≤ t .have))
   pub reads : (t .ended || known (take (t .have) before)) ≡ false → u .ended ≡ eqb (length read) 0
   pub next : u .next ≡ t .next
 
 -- what a turn has used up is dropped, and the rest stays at hand
 pub record Kept (t : Turn) (before : List ℕ) (p : Place) (u : Turn) (after : List ℕ) : Type 0 where
   pub hand : take (u .have) after ≡ drop (p .at) (take (t .have) before)
+  pub have : u .have ≡ t .have - p .at
   pub ended : u .ended ≡ t .ended
   pub next : u .next ≡ p .next
 
@@ -64,13 +66,15 @@ abbrev pub goesOn : Turn → Bool
 goesOn t = not (eqb (t .next) 0) && (not (t .ended) || ltb 0 (t .have))
 
 -- from x to y these bytes were read and these lines given: none are read once the input has ended, which it has where a read brings none. Whatever follows in
--- the input (nothing, once it has ended), the run over all the bytes from x on is these lines, and then the run over the bytes from y on
+-- the input (nothing, once it has ended), the run over all the bytes from x on is these lines, and then the run over the bytes from y on. And the program gets on:
+-- bytes were read, or the input's end was found, or bytes at hand were used up
 pub record Went (x y : Between) : Type 0 where
   pub read : List ℕ
   pub lines : List Line
   pub ended : x .turn .ended ≡ true → y .turn .ended ≡ true
   pub none : y .turn .ended ≡ true → read ≡ []
   pub same : (rest : List ℕ) → (y .turn .ended ≡ true → rest ≡ []) → run (ranOf x) (pieces (x .hand ++ (read ++ rest))) ≡ followedBy lines (run (ranOf y) (pieces (y .hand ++ rest)))
+  pub gets-on : (0 < length read) ⊎ (((x .turn .ended ≡ false) × (y .turn .ended ≡ true)) ⊎ (y .turn .have < x .turn .have))
 
 -- a turn, where the program goes on; otherwise everything stays
 pub record Turned (x y : Between) : Type 0 where

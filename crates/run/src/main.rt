@@ -22,13 +22,13 @@ use replay::start;
 use settings::Height;
 use wire::length::HEADER;
 ghost use mathlib.Core.Path.{_≡_};
-ghost use mathlib.Core.Bool.{false};
+ghost use mathlib.Core.Bool.{true, false};
 ghost use Prim.Native.Nat.{_-_, _^_, _≤_};
 ghost use lib.ListN.{length, take};
 ghost use Rattle.replica.specs.Reply.{lentTo};
 ghost use Rattle.replay.specs.Lines.{lineLength};
 ghost use Rattle.replay.specs.Replay.{standing, start, steps};
-ghost use Rattle.run.specs.Running.{emptyBlock, between, Went, Turned, Turns, Program, ProgramWithStore};
+ghost use Rattle.run.specs.Running.{emptyBlock, goesOn, between, Went, Turned, Turns, Program, ProgramWithStore};
 
 // The bytes at hand, more than the longest record has, and a line for each record that they can hold.
 const INPUT_LENGTH: usize = 8192;
@@ -96,6 +96,7 @@ fn take_turn(
     lines: &mut [u8],
     t: Turn,
 ) -> Turn
+    requires { ⌜ (goesOn t ≡ true) × (lineLength ≤ length (now lines)) ⌝ }
     ensures { λ r. ⌜ Went (between (lentTo (now (counters .entry)) (now (mem .entry)) (now (store .entry))) (now (out .entry)) (now (buf .entry)) t)
         (between (lentTo (now (counters .exit)) (now (mem .exit)) (now (store .exit))) (now (out .exit)) (now (buf .exit)) r) ⌝ }
 {
@@ -115,6 +116,7 @@ fn next_turn(
     lines: &mut [u8],
     t: Turn,
 ) -> Turn
+    requires { ⌜ lineLength ≤ length (now lines) ⌝ }
     ensures { λ r. ⌜ Turned (between (lentTo (now (counters .entry)) (now (mem .entry)) (now (store .entry))) (now (out .entry)) (now (buf .entry)) t)
         (between (lentTo (now (counters .exit)) (now (mem .exit)) (now (store .exit))) (now (out .exit)) (now (buf .exit)) r) ⌝ }
 {
@@ -137,6 +139,7 @@ fn run_turns(
     level: u64,
     t: Turn,
 ) -> Turn
+    requires { ⌜ lineLength ≤ length (now lines) ⌝ }
     ensures { λ r. ⌜ Turns (2 ^ level - 1) (between (lentTo (now (counters .entry)) (now (mem .entry)) (now (store .entry))) (now (out .entry)) (now (buf .entry)) t)
         (between (lentTo (now (counters .exit)) (now (mem .exit)) (now (store .exit))) (now (out .exit)) (now (buf .exit)) r) ⌝ }
 {

@@ -1,7 +1,7 @@
 -- `run::take_turn` meets its contract: a walk of its MIR. tools/walk.py wrote it from take_turn.py.
 -- Assumes nothing.
-use Rattle.walks.proofs.Walk.{_≡_, refl, ℕ, _^_, _-_, [], _∷_, List, length, URA, fullShare, named, w64, tyInt, Val, vptr, SProp, ent, id⊢, emp, via, fst∗, GName, Lft, Share, ftrue, flft, Memory, Routine, Heap, Calls, Loops, WpFn, Tables, Atoms, Fun, givenOf, tables, tablesOf, Given, ‵, _⊛_, _$_, _∵_, !, qed, move, drop, split, fsplit, keep, look, init, stop, hop, fld, from, load, addr, and-then, no-more, assigns, returns, enter, alloc1, alloc0, params1, pass1, pass0, agg}
-use Rattle.walks.proofs.Walk.{whole, sub, look-in, FmC, fmOf, WpFn-mono, owns, Is, mem, u8, MutRef, ptr-vals, mut-tells, sliceVal, MutSlice, Room, slice-vals, mut-slice-tells, plain, onEntry, Meets, tripleOf, Contract, Triple, calls-at, entered, cited, Stays, stay-ref, stay-dropped, walkOf, AllGo, goes-dropped, goes-ref, Walks, walked, walk-meets, stay-slice, goes-slice, yes, true, false}
+use Rattle.walks.proofs.Walk.{_≡_, refl, ℕ, _^_, _≤_, _-_, [], _∷_, List, length, URA, fullShare, named, w64, tyInt, Val, vptr, SProp, ent, id⊢, GName, Lft, Share, ftrue, flft, Memory, Routine, Heap, Calls, Loops, WpFn, Tables, Atoms, Fun, givenOf, tables, tablesOf, Given, ‵, _⊛_, _$_, _∵_, !, qed, move, drop, split, fsplit, keep, look, init, stop, hop, fld, from, load, addr, and-then, no-more, assigns, returns, enter, alloc1, alloc0, params1, pass1, pass0, agg, whole, sub}
+use Rattle.walks.proofs.Walk.{look-in, FmC, fmOf, WpFn-mono, owns, Is, mem, u8, MutRef, ptr-vals, mut-tells, sliceVal, MutSlice, Room, slice-vals, mut-slice-tells, plain, onEntry, Meets, tripleOf, Contract, Triple, calls-at, entered, cited, needs, Stays, stay-ref, stay-dropped, walkOf, AllGo, goes-dropped, goes-ref, Walks, walked, walk-meets, stay-slice, goes-slice, yes, true, false}
 use Rattle.walks.proofs.Data.{fits, word, nil}
 use Rattle.walks.proofs.Calls.{end, held, made, out, so, of, asks, back-again, came, full, leave, ends}
 use Rattle.walks.proofs.Lent.{lying, lend-mut, lend-shr, back-shr}
@@ -10,7 +10,8 @@ use lib.ListN.{take}
 use Prim.Native.Nat.{_-_, _^_}
 use Rattle.replica.specs.Reply.{lentTo}
 use Rattle.replay.specs.Replay.{start, standing, steps}
-use Rattle.run.specs.Running.{Refilled, Kept}
+use Rattle.replay.specs.Lines.{lineLength}
+use Rattle.run.specs.Running.{Refilled, Kept, goesOn}
 use Rattle.run.proofs.Turning.{turn-went}
 use Rattle.counters.specs.declared.Counters.{Counters}
 use Rattle.blocks.specs.declared.Block.{Block}
@@ -57,7 +58,7 @@ module _ {M : Type 1} (𝓤 : URA M) (H : Heap 𝓤) (A : Atoms 𝓤) (mem : Mem
   Known C = Triple 𝓤 (C refill-def.name) refillᶜ × (Triple 𝓤 (C replay-known-def.name) replay-knownᶜ × (Triple 𝓤 (C print-def.name) printᶜ × Triple 𝓤 (C keep-def.name) keepᶜ))
 
 module _ {M : Type 1} (𝓤 : URA M) (H : Heap 𝓤) (A : Atoms 𝓤) (W : Given 𝓤 H A) (mem : Memory → SProp 𝓤) (run : Routine → Fun 𝓤) (κ0 κ1 κ2 κ3 κ4 κ5 : Lft) (q0 q1 q2 q3 q4 q5 : Share) (cs-b cs-o : ℕ) (cs-γ : GName) (cs : Counters) (m-b m-o : ℕ) (m-γ : GName) (m : List ℕ) (ys-b ys-o : ℕ) (ys-γ : GName) (ys : List Block) (out-b out-o : ℕ) (out-γ : GName) (out : List ℕ) (buf-b buf-o : ℕ) (buf-γ : GName) (buf : List ℕ) (ls-b ls-o : ℕ) (ls-γ : GName) (ls : List ℕ) (t : Turn)
-    (m-room : Room u8 (length m)) (ys-room : Room Blockᴿ (length ys)) (out-room : Room u8 (length out)) (buf-room : Room u8 (length buf)) (ls-room : Room u8 (length ls)) (t-is : Is Turnᴿ t ((Turnᴰ .val t) ∷ [])) where
+    (m-room : Room u8 (length m)) (ys-room : Room Blockᴿ (length ys)) (out-room : Room u8 (length out)) (buf-room : Room u8 (length buf)) (ls-room : Room u8 (length ls)) (t-is : Is Turnᴿ t ((Turnᴰ .val t) ∷ [])) (asked : (goesOn t ≡ true) × (lineLength ≤ length ls)) where
   abbrev m-n : ℕ
   m-n = length m
 
@@ -112,7 +113,7 @@ module _ {M : Type 1} (𝓤 : URA M) (H : Heap 𝓤) (A : Atoms 𝓤) (W : Given
       move ! (2 ∷ 3 ∷ []) $ lend-mut ! tt u8 buf-b buf-o buf-n (ws0 .0) l0-0 (λ ν3-0 δ3-0.
       let y3 : keepᶜ 𝓤 H A mem run .Ghost = ((((ν3-0 ∷ []), tt), (fullShare, tt), tt, (lying u8 buf-b buf-o δ3-0 (ws0 .0), (r0, (r1, tt))), (buf-s ∷ [], ((Turnᴰ .val r0) ∷ [], ((Placeᴰ .val r1) ∷ [], tt)))), tt) in asks ! keep.ended (keep.clauses 𝓤 H A mem run) y3 2 (held (of W Turnᴰ r0 is0 (of W Placeᴰ r1 is1 end))) refl (so 𝓤 (e0 .within)) $ calls-at ! fm (keepᶜ 𝓤 H A mem run) (known .1 .1 .1) y3 (and-then ! (load ! (from ! (stop !)) (look ! 12 refl)) (and-then ! (load ! (from ! (stop !)) (look ! 50 refl)) (and-then ! (load ! (from ! (stop !)) (look ! 48 refl)) (no-more !)))) (λ w3. came ! keep.ended (keep.clauses 𝓤 H A mem run) y3 w3 Turnᴰ 65 refl refl (true ∷ false ∷ false ∷ []) (λ r ws. Kept r0 (ws0 .0) r1 r (ws .0)) (λ r ws. id⊢ 𝓤 _) (λ r3 ws3 is3 e3. back-again ! tt u8 buf-b buf-o buf-n (ws0 .0) (ws3 .0) buf-room l0-0 (λ l3-0.
       -- the exit
-      returns ! (look ! 66 refl) $ leave ! 12 (full _ ∷ full _ ∷ full _ ∷ full _ ∷ full _ ∷ full _ ∷ full _ ∷ full _ ∷ full _ ∷ full _ ∷ full _ ∷ full _ ∷ full _ ∷ full _ ∷ full _ ∷ full _ ∷ full _ ∷ full _ ∷ full _ ∷ full _ ∷ full _ ∷ full _ ∷ full _ ∷ full _ ∷ full _ ∷ full _ ∷ full _ ∷ full _ ∷ []) refl $ keep ! (11 ∷ 9 ∷ 7 ∷ 5 ∷ 1 ∷ 3 ∷ 10 ∷ 8 ∷ 6 ∷ 4 ∷ 0 ∷ 2 ∷ []) $ ends W f.ended stayed (f.clauses 𝓤 H A mem run) y (Turnᴰ .val r3) r3 ((ws1 .0), ((ws1 .1 .0), ((ws1 .1 .1 .0), ((ws1 .1 .1 .1 .0), ((ws3 .0), ((ws1 .1 .1 .1 .1 .1 .0), (tt, tt))))))) (tt, (l1-1, (l1-2, (l1-3, (l3-0, (l1-5, (tt, tt))))))) (Turnᴰ .makes 𝓤 H A W r3 _ is3) (so 𝓤 (turn-went (lentTo cs m ys) _ out _ ls _ buf _ _ t r0 r3 r1 e0 e1 e3)) (held (held (held (held (held (held (made (id⊢ 𝓤 _) end))))))))))))))))))))))))))))))))))))))))))))))))))))))))))
+      returns ! (look ! 66 refl) $ leave ! 12 (full _ ∷ full _ ∷ full _ ∷ full _ ∷ full _ ∷ full _ ∷ full _ ∷ full _ ∷ full _ ∷ full _ ∷ full _ ∷ full _ ∷ full _ ∷ full _ ∷ full _ ∷ full _ ∷ full _ ∷ full _ ∷ full _ ∷ full _ ∷ full _ ∷ full _ ∷ full _ ∷ full _ ∷ full _ ∷ full _ ∷ full _ ∷ full _ ∷ []) refl $ keep ! (11 ∷ 9 ∷ 7 ∷ 5 ∷ 1 ∷ 3 ∷ 10 ∷ 8 ∷ 6 ∷ 4 ∷ 0 ∷ 2 ∷ []) $ ends W f.ended stayed (f.clauses 𝓤 H A mem run) y (Turnᴰ .val r3) r3 ((ws1 .0), ((ws1 .1 .0), ((ws1 .1 .1 .0), ((ws1 .1 .1 .1 .0), ((ws3 .0), ((ws1 .1 .1 .1 .1 .1 .0), (tt, tt))))))) (tt, (l1-1, (l1-2, (l1-3, (l3-0, (l1-5, (tt, tt))))))) (Turnᴰ .makes 𝓤 H A W r3 _ is3) (so 𝓤 (turn-went (lentTo cs m ys) _ out _ ls _ buf _ _ t r0 r3 r1 e0 e1 e3 (asked .0) (asked .1))) (held (held (held (held (held (held (made (id⊢ 𝓤 _) end))))))))))))))))))))))))))))))))))))))))))))))))))))))))))
 
 module _ {M : Type 1} (𝓤 : URA M) (H : Heap 𝓤) (A : Atoms 𝓤) (W : Given 𝓤 H A) (mem : Memory → SProp 𝓤) (run : Routine → Fun 𝓤) where
   goes : AllGo 𝓤 H A W 6 (f.signature .params) (f.ended .kept) stayed
@@ -120,7 +121,7 @@ module _ {M : Type 1} (𝓤 : URA M) (H : Heap 𝓤) (A : Atoms 𝓤) (W : Given
 
   walks : (𝓣 : Tables 𝓤 H) → Known 𝓤 H A mem run (𝓣 .C) → Walks 𝓤 H A f.ended stayed (WpFn 𝓤 H (𝓣 .C) (𝓣 .Λ) code.function) (f.clauses 𝓤 H A mem run)
   walks 𝓣 known = walked 𝓤 H A f.ended stayed (f.clauses 𝓤 H A mem run) (WpFn 𝓤 H (𝓣 .C) (𝓣 .Λ) code.function) (λ κs. (ptr-vals, (slice-vals, (slice-vals, (slice-vals, (slice-vals, (slice-vals, ((λ x. Turnᴰ .val x ∷ []), tt)))))))) (λ κs. (mut-tells (named 0) (κs .0) Countersᴿ, (mut-slice-tells (named 1) (κs .1 .0) u8, (mut-slice-tells (named 2) (κs .1 .1 .0) Blockᴿ, (mut-slice-tells (named 3) (κs .1 .1 .1 .0) u8, (mut-slice-tells (named 4) (κs .1 .1 .1 .1 .0) u8, (mut-slice-tells (named 5) (κs .1 .1 .1 .1 .1 .0) u8, (Turnᴰ .tells, tt))))))))
-      (λ κs qs bounds a g are. via 𝓤 _ (fst∗ 𝓤 _ (emp 𝓤)) (walk 𝓤 H A W mem run (κs .0) (κs .1 .0) (κs .1 .1 .0) (κs .1 .1 .1 .0) (κs .1 .1 .1 .1 .0) (κs .1 .1 .1 .1 .1 .0) (qs .0) (qs .1 .0) (qs .1 .1 .0) (qs .1 .1 .1 .0) (qs .1 .1 .1 .1 .0) (qs .1 .1 .1 .1 .1 .0) (a .0 .ptr .0) (a .0 .ptr .1) (a .0 .name) (a .0 .now) (a .1 .0 .ptr .0) (a .1 .0 .ptr .1) (a .1 .0 .name) (a .1 .0 .now) (a .1 .1 .0 .ptr .0) (a .1 .1 .0 .ptr .1) (a .1 .1 .0 .name) (a .1 .1 .0 .now) (a .1 .1 .1 .0 .ptr .0) (a .1 .1 .1 .0 .ptr .1) (a .1 .1 .1 .0 .name) (a .1 .1 .1 .0 .now) (a .1 .1 .1 .1 .0 .ptr .0) (a .1 .1 .1 .1 .0 .ptr .1) (a .1 .1 .1 .1 .0 .name) (a .1 .1 .1 .1 .0 .now) (a .1 .1 .1 .1 .1 .0 .ptr .0) (a .1 .1 .1 .1 .1 .0 .ptr .1) (a .1 .1 .1 .1 .1 .0 .name) (a .1 .1 .1 .1 .1 .0 .now) (a .1 .1 .1 .1 .1 .1 .0) (are .1 .0 .0 .1) (are .1 .1 .0 .0 .1) (are .1 .1 .1 .0 .0 .1) (are .1 .1 .1 .1 .0 .0 .1) (are .1 .1 .1 .1 .1 .0 .0 .1) (are .1 .1 .1 .1 .1 .1 .0) (𝓣 .C) (𝓣 .Λ) (fmOf 𝓤 H (W .laws) 𝓣) known))
+      (λ κs qs bounds a g are. needs 𝓤 ((goesOn (a .1 .1 .1 .1 .1 .1 .0) ≡ true) × (lineLength ≤ length (a .1 .1 .1 .1 .1 .0 .now))) _ (λ asked. walk 𝓤 H A W mem run (κs .0) (κs .1 .0) (κs .1 .1 .0) (κs .1 .1 .1 .0) (κs .1 .1 .1 .1 .0) (κs .1 .1 .1 .1 .1 .0) (qs .0) (qs .1 .0) (qs .1 .1 .0) (qs .1 .1 .1 .0) (qs .1 .1 .1 .1 .0) (qs .1 .1 .1 .1 .1 .0) (a .0 .ptr .0) (a .0 .ptr .1) (a .0 .name) (a .0 .now) (a .1 .0 .ptr .0) (a .1 .0 .ptr .1) (a .1 .0 .name) (a .1 .0 .now) (a .1 .1 .0 .ptr .0) (a .1 .1 .0 .ptr .1) (a .1 .1 .0 .name) (a .1 .1 .0 .now) (a .1 .1 .1 .0 .ptr .0) (a .1 .1 .1 .0 .ptr .1) (a .1 .1 .1 .0 .name) (a .1 .1 .1 .0 .now) (a .1 .1 .1 .1 .0 .ptr .0) (a .1 .1 .1 .1 .0 .ptr .1) (a .1 .1 .1 .1 .0 .name) (a .1 .1 .1 .1 .0 .now) (a .1 .1 .1 .1 .1 .0 .ptr .0) (a .1 .1 .1 .1 .1 .0 .ptr .1) (a .1 .1 .1 .1 .1 .0 .name) (a .1 .1 .1 .1 .1 .0 .now) (a .1 .1 .1 .1 .1 .1 .0) (are .1 .0 .0 .1) (are .1 .1 .0 .0 .1) (are .1 .1 .1 .0 .0 .1) (are .1 .1 .1 .1 .0 .0 .1) (are .1 .1 .1 .1 .1 .0 .0 .1) (are .1 .1 .1 .1 .1 .1 .0) asked (𝓣 .C) (𝓣 .Λ) (fmOf 𝓤 H (W .laws) 𝓣) known))
 
   meets : (𝓣 : Tables 𝓤 H) → Known 𝓤 H A mem run (𝓣 .C) → Meets 𝓤 H A f.signature (WpFn 𝓤 H (𝓣 .C) (𝓣 .Λ) code.function) (f.spec 𝓤 H A mem run)
   meets 𝓣 known = walk-meets 𝓤 H A f.ended stayed W goes (f.clauses 𝓤 H A mem run) (WpFn 𝓤 H (𝓣 .C) (𝓣 .Λ) code.function) (WpFn-mono 𝓤 H (W .laws) 𝓣 code.function) (walks 𝓣 known)
