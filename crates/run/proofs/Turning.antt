@@ -8,7 +8,7 @@ use mathlib.Core.Logic.{_⊎_, inl, inr}
 use mathlib.Core.List.{List, [], _∷_, _++_, append-nil, append-assoc}
 use borrow.Author.Tests.{eqb-true, eqb-false, not-true, le-leb, ltb-true, ltb-false}
 use lib.Dec.{eqb, ltb}
-use lib.ListN.{length, take, drop, replicate, length-take}
+use lib.ListN.{length, take, drop, replicate, length-take, length-append}
 use Rattle.codec.specs.Bytes.{part}
 use Rattle.codec.proofs.Order.{and-true}
 use Rattle.blocks.specs.declared.Block.{Block}
@@ -82,6 +82,11 @@ module _ (p q : Replica) (o o′ lines lines′ before after kept : List ℕ) (t
       let some = ready-some (u .ended) (take (u .have) after) r in
       omega (arith, m, some, length-take (u .have) after, keeps .have)
 
+  no-more : v .have ≤ t .have + length (fill .read)
+  no-more =
+      let l = ap length (fill .hand) ∙ length-append (take (t .have) before) (fill .read) in
+      omega (arith, l, length-take (u .have) after, length-take (t .have) before, fill .within, keeps .have)
+
   progress : (0 < length (fill .read)) ⊎ (((t .ended ≡ false) × (v .ended ≡ true)) ⊎ (v .have < t .have))
   progress = by (t .ended) (known (take (t .have) before)) refl refl
     where
@@ -120,6 +125,7 @@ module _ (p q : Replica) (o o′ lines lines′ before after kept : List ℕ) (t
         ended = λ e. keeps .ended ∙ stays-ended e;
         none = λ e. none-read (sym (keeps .ended) ∙ e);
         same = same-run;
+        most = no-more;
         gets-on = progress;
       }
 

@@ -1,13 +1,15 @@
 -- THE PROGRAM IS 01'S RUN: where it has come to its end, what it leaves is what `program` of replay says of the input that it read, whatever follows in the input
 -- after a stop; and its lines are the ones that `program` has. Assumes nothing.
-use Prim.Native.Nat.{ℕ, _≤_, _<_}
+use Prim.Native.Nat.{ℕ, _+_, _*_, _-_, _^_, _≤_, _<_}
 use native.Mathlib.Omega.{arith}
+use native.Mathlib.Nat.{le-refl}
 use mathlib.Core.Path.{_≡_, refl, sym, ap, _∙_}
-use mathlib.Core.Bool.{Bool, true, false, not, _&&_, _||_, true≢false}
+use mathlib.Core.Bool.{Bool, true, false, cond, not, _&&_, _||_, true≢false}
+use mathlib.Core.Logic.{_⊎_, inl, inr}
 use mathlib.Core.List.{List, [], _++_, append-nil, append-assoc}
 use borrow.Author.Tests.{eqb-true, ne-eqb, ltb-true, ltb-false}
 use lib.Dec.{eqb, ltb}
-use lib.ListN.{length, take, drop, drop-of-length-le}
+use lib.ListN.{length, take, drop, length-append, drop-of-length-le}
 use lib.Seq.{take-append-seam, drop-append-seam, take-all}
 use Rattle.blocks.specs.declared.Block.{Block}
 use Rattle.counters.specs.Counters.{opened}
@@ -31,13 +33,13 @@ followed-twice : (a b : List Line) (s : Ran) → followedBy a (followedBy b s) �
 followed-twice a b s = λ i. record { replica = s .replica; output = s .output; lines = sym (append-assoc a b (s .lines)) i; next = s .next }
 
 -- ---- turns: what was read in all of them, and the lines that were given
-record Through (x y : Between) : Type 0 where
-  read : List ℕ
-  lines : List Line
+pub record Through (x y : Between) : Type 0 where
+  pub read : List ℕ
+  pub lines : List Line
   -- nothing is read where the program is over before the first
-  over : goesOn (x .turn) ≡ false → read ≡ []
-  ended : x .turn .ended ≡ true → (read ≡ []) × (y .turn .ended ≡ true)
-  same : (rest : List ℕ) → (y .turn .ended ≡ true → rest ≡ []) → run (ranOf x) (pieces (x .hand ++ (read ++ rest))) ≡ followedBy lines (run (ranOf y) (pieces (y .hand ++ rest)))
+  pub over : goesOn (x .turn) ≡ false → read ≡ []
+  pub ended : x .turn .ended ≡ true → (read ≡ []) × (y .turn .ended ≡ true)
+  pub same : (rest : List ℕ) → (y .turn .ended ≡ true → rest ≡ []) → run (ranOf x) (pieces (x .hand ++ (read ++ rest))) ≡ followedBy lines (run (ranOf y) (pieces (y .hand ++ rest)))
 
 stay : (x : Between) → Through x x
 stay x = record { read = []; lines = []; over = λ _. refl; ended = λ e. (refl, e); same = λ rest _. refl }
@@ -55,10 +57,43 @@ then {x} {y} {z} g w u =
           ∙ (ap (followedBy (w .lines)) (u .same rest nothing) ∙ followed-twice (w .lines) (u .lines) (run (ranOf z) (pieces (z .hand ++ rest)))));
     }
 
-through : {k : ℕ} {x y : Between} → Turns k x y → Through x y
+pub through : {k : ℕ} {x y : Between} → Turns k x y → Through x y
 through (spent x) = stay x
 through (done k x n) = stay x
 through (turn k x y z g w t) = then g w (through t)
+
+-- ---- the program comes to its end: where it is still going on after k turns, k is at most one more than twice the bytes read
+abbrev unended : Between → ℕ
+unended x = cond (x .turn .ended) 0 1
+
+-- one turn
+module _ (x y : Between) (w : Went x y) where
+  no-later : unended y ≤ unended x
+  no-later = by (x .turn .ended) (y .turn .ended) refl refl
+    where
+      by : (a b : Bool) → x .turn .ended ≡ a → y .turn .ended ≡ b → unended y ≤ unended x
+      by true true e f = rw (e, f) (le-refl 0)
+      by true false e f = absurd (true≢false (sym (w .ended e) ∙ f))
+      by false true e f = rw (e, f) (omega arith)
+      by false false e f = rw (e, f) (le-refl 1)
+
+  one-more : 1 + (y .turn .have + unended y) ≤ x .turn .have + unended x + 2 * length (w .read)
+  one-more = by (w .gets-on)
+    where
+      by : (0 < length (w .read)) ⊎ (((x .turn .ended ≡ false) × (y .turn .ended ≡ true)) ⊎ (y .turn .have < x .turn .have)) → 1 + (y .turn .have + unended y) ≤ x .turn .have + unended x + 2 * length (w .read)
+      by (inl some) = omega (arith, some, no-later, w .most)
+      by (inr (inl e)) =
+          let l : length (w .read) ≡ 0 = ap length (w .none (e .1)) in
+          let a : unended x ≡ 1 = rw (e .0) in
+          let b : unended y ≡ 0 = rw (e .1) in
+          omega (arith, l, a, b, w .most)
+      by (inr (inr less)) = omega (arith, less, no-later)
+
+turns-few : {k : ℕ} {x y : Between} (t : Turns k x y) → goesOn (y .turn) ≡ true → k + (y .turn .have + unended y) ≤ x .turn .have + unended x + 2 * length (through t .read)
+unfolding through then
+turns-few (spent x) g = omega arith
+turns-few (done k x n) g = absurd (true≢false (sym g ∙ n))
+turns-few (turn k x y z g w t) h = let l = length-append (w .read) (through t .read) in omega (arith, turns-few t h, one-more x y w, l)
 
 -- ---- the end: the program has stopped, or the input has ended and nothing is left of it
 ends-there : (x : Between) → goesOn (x .turn) ≡ false → (x .turn .have ≡ 0 → x .hand ≡ []) → (rest : List ℕ) → (x .turn .ended ≡ true → rest ≡ [])
@@ -75,7 +110,15 @@ ends-there x n short rest nothing = by (eqb (x .turn .next) 0) (x .turn .ended) 
     by false true true p q r f = absurd (true≢false f)
     by false false h p q r f = absurd (true≢false f)
 
--- ---- the whole program
+-- ---- the whole program: fewer than 2 ^ 60 bytes are read to their end
+pub comes-to-its-end : {m : List ℕ} {s : List Block} {o m′ : List ℕ} {s′ : List Block} {o′ : List ℕ} {t : Turn} (p : Program (2 ^ 62 - 1) m s o m′ s′ o′ t)
+    → length (through (p .went) .read) < 2 ^ 60 → goesOn t ≡ false
+comes-to-its-end {t = t} p few = by (goesOn t) refl
+  where
+    by : (z : Bool) → goesOn t ≡ z → goesOn t ≡ false
+    by true g = absurd (let f = turns-few (p .went) g in omega (arith, f, few))
+    by false g = g
+
 module _ {most : ℕ} {m : List ℕ} {s : List Block} {o m′ : List ℕ} {s′ : List Block} {o′ : List ℕ} {t : Turn} (p : Program most m s o m′ s′ o′ t) (end : goesOn t ≡ false) where
   abbrev begins : Ran
   begins = begun (opens (lentTo opened m s) (openingOf (p .first))) o

@@ -1,5 +1,5 @@
 -- WHAT THE RUN PROGRAM DOES, turn by turn. What a read brings is free: no contract can say what the operating system hands over. Assumes nothing.
-use Prim.Native.Nat.{ℕ, zero, suc, _-_, _≤_, _<_}
+use Prim.Native.Nat.{ℕ, zero, suc, _+_, _-_, _≤_, _<_}
 use mathlib.Core.Path.{_≡_}
 use mathlib.Core.Bool.{Bool, true, false, not, _&&_, _||_}
 use mathlib.Core.List.{List, [], _++_}
@@ -74,6 +74,7 @@ pub record Went (x y : Between) : Type 0 where
   pub ended : x .turn .ended ≡ true → y .turn .ended ≡ true
   pub none : y .turn .ended ≡ true → read ≡ []
   pub same : (rest : List ℕ) → (y .turn .ended ≡ true → rest ≡ []) → run (ranOf x) (pieces (x .hand ++ (read ++ rest))) ≡ followedBy lines (run (ranOf y) (pieces (y .hand ++ rest)))
+  pub most : y .turn .have ≤ x .turn .have + length read
   pub gets-on : (0 < length read) ⊎ (((x .turn .ended ≡ false) × (y .turn .ended ≡ true)) ⊎ (y .turn .have < x .turn .have))
 
 -- a turn, where the program goes on; otherwise everything stays

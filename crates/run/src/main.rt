@@ -1,6 +1,6 @@
 // 01's run program: records on standard input, and a line for each call on standard output.
-// Promises: it is safe on any input and ends; what its replica is left with is 01's run of what it read (`Went` of specs/Running.antt, proofs/Whole.antt), turn by
-// turn: bytes are read behind those at hand, `replay` takes the pieces that are known and gives their lines, which are printed, and the rest is kept. That the
+// Promises: it is safe on any input, comes to its end, and leaves its replica as 01's run of what it read does (`Program` of specs/Running.antt, proofs/Whole.antt). It
+// goes by turns: bytes are read behind those at hand, `replay` takes the pieces that are known and gives their lines, which are printed, and the rest is kept. That the
 // operating system's calls read and write what they say is assumed; the digits printed are tested. Rests on `replay` and on the kit's `io`.
 mod printing;
 mod reading;
@@ -10,7 +10,6 @@ use blocks::STORE_LENGTH;
 use counters::Counters;
 use counters::opened;
 use refusals::regions::OUTPUT_LENGTH;
-use replay::Opening;
 use replay::Place;
 use replay::begin;
 use replay::input::part_of;
