@@ -7,7 +7,7 @@
     'requires': 'lineLength ≤ length {ls}',
     'callees': {
         'run::reading::goes_on': {'ens': 'r ≡ goesOn {0}'},
-        'run::take_turn': {'req': 'yes', 'ens': 'Went (between (lentTo {0} {1} {2}) {3} {4} {6}) (between (lentTo {w0} {w1} {w2}) {w3} {w4} r)'},
+        'run::take_turn': {'req': 'yes', 'ens': 'Went (between (lentTo {0} {1} {2}) {3} {4} {5} {6}) (between (lentTo {w0} {w1} {w2}) {w3} {w4} {w5} r)'},
     },
     'asks': ['(sym e0 ∙ is-true r0 yes0, asked)'],
     'says': ['(turned-on (sym e0 ∙ is-true r0 yes0) e1)', '(turned-over (sym e0 ∙ is-false r0 no0))'],

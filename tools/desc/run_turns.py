@@ -10,12 +10,12 @@
     'callees': {
         'run::reading::goes_on': {'ens': 'r ≡ goesOn {0}'},
         'replay::shallower': {'ens': 'r ≡ deeper {0} {1}'},
-        'run::next_turn': {'req': 'yes', 'ens': 'Turned (between (lentTo {0} {1} {2}) {3} {4} {6}) (between (lentTo {w0} {w1} {w2}) {w3} {w4} r)'},
-        'run::run_turns': {'req': 'yes', 'ens': 'Turns (2 ^ {6} - 1) (between (lentTo {0} {1} {2}) {3} {4} {7}) (between (lentTo {w0} {w1} {w2}) {w3} {w4} r)'},
+        'run::next_turn': {'req': 'yes', 'ens': 'Turned (between (lentTo {0} {1} {2}) {3} {4} {5} {6}) (between (lentTo {w0} {w1} {w2}) {w3} {w4} {w5} r)'},
+        'run::run_turns': {'req': 'yes', 'ens': 'Turns (2 ^ {6} - 1) (between (lentTo {0} {1} {2}) {3} {4} {5} {7}) (between (lentTo {w0} {w1} {w2}) {w3} {w4} {w5} r)'},
     },
     'falls': ['(level-falls lv r0 r1 e1 (is-true (r1 .goes) yes0))', '(level-falls lv r0 r1 e1 (is-true (r1 .goes) yes0))'],
     'asks': ['asked', '(subst (λ (n : ℕ). lineLength ≤ n) (sym l2-5) asked)', '(subst (λ (n : ℕ). lineLength ≤ n) (sym l3-5) asked)'],
-    'says': ['(turns-halves lv r0 r1 e1 (is-true (r1 .goes) yes0) e2 e3 e4)', '(no-turns lv (between (lentTo cs m ys) out buf t) r0 r1 e0 e1 (is-false (r1 .goes) no0))'],
+    'says': ['(turns-halves lv r0 r1 e1 (is-true (r1 .goes) yes0) e2 e3 e4)', '(no-turns lv (between (lentTo cs m ys) out buf ls t) r0 r1 e0 e1 (is-false (r1 .goes) no0))'],
     'spec': {
         'Prim.Native.Nat': ['_-_', '_^_'],
         'Rattle.blocks.proofs.Ancestry': ['is-true', 'is-false'],

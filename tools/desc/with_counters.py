@@ -12,10 +12,10 @@
         'replay::begin': {'req': 'yes', 'ens': '(r ≡ cond (eqb {1} 0) (start 1) stopped) × ({w0} ≡ cond (eqb {1} 0) {0} (patch {0} 0 (lineBytes refusedOpening)))'},
         'run::printing::print': {'ens': ''},
         'run::first_turn': {'ens': 'r ≡ record {{ have = 0; ended = false; next = {0} .next }}'},
-        'run::run_turns': {'req': 'yes', 'ens': 'Turns (2 ^ {6} - 1) (between (lentTo {0} {1} {2}) {3} {4} {7}) (between (lentTo {w0} {w1} {w2}) {w3} {w4} r)'},
+        'run::run_turns': {'req': 'yes', 'ens': 'Turns (2 ^ {6} - 1) (between (lentTo {0} {1} {2}) {3} {4} {5} {7}) (between (lentTo {w0} {w1} {w2}) {w3} {w4} {w5} r)'},
     },
     'asks': ['asked', '(subst (λ (n : ℕ). lineLength ≤ n) (sym l3-0) asked)'],
-    'says': ['(program-went m ys out (ws6 .1 .1 .1 .1 .0) e0 e1 e2 (e3 .0) e5 e6)'],
+    'says': ['(program-went m ys out ls (ws6 .1 .1 .1 .1 .0) e0 e1 e2 e3 e5 e6)'],
     'spec': {
         'lib.Dec': ['eqb'],
         'mathlib.Core.Bool': ['cond'],

@@ -7,7 +7,7 @@
     'requires': 'lineLength ≤ length {ls}',
     'callees': {
         'run::empty_block': {'ens': 'r ≡ emptyBlock'},
-        'run::with_counters': {'req': 'yes', 'ens': 'Program (2 ^ 62 - 1) {0} {1} {2} {w0} {w1} {w2} r'},
+        'run::with_counters': {'req': 'yes', 'ens': 'Program (2 ^ 62 - 1) {0} {1} {2} {4} {w0} {w1} {w2} {w4} r'},
     },
     'asks': ['asked'],
     'says': ['(with-empty-store e0 e1)'],

@@ -9,7 +9,8 @@ use mathlib.Core.List.{List, [], _∷_, _++_, append-nil, append-assoc}
 use borrow.Author.Tests.{eqb-true, eqb-false, not-true, le-leb, ltb-true, ltb-false}
 use lib.Dec.{eqb, ltb}
 use lib.ListN.{length, take, drop, replicate, length-take, length-append}
-use Rattle.codec.specs.Bytes.{part}
+use Rattle.codec.specs.Bytes.{part, patch}
+use Rattle.codec.proofs.Laws.{patch-nil}
 use Rattle.codec.proofs.Order.{and-true}
 use Rattle.blocks.specs.declared.Block.{Block}
 use Rattle.counters.specs.declared.Counters.{Counters}
@@ -20,7 +21,7 @@ use Rattle.counters.specs.Counters.{opened}
 use Rattle.replay.specs.declared.Opening.{Opening}
 use Rattle.replay.specs.declared.Place.{Place}
 use Rattle.replay.specs.Input.{openingOf, pieces}
-use Rattle.replay.specs.Lines.{lineLength, refusedOpening}
+use Rattle.replay.specs.Lines.{lineLength, lineBytes, linesBytes, refusedOpening}
 use Rattle.replay.specs.Replay.{Answered, afterAnswer, Ran, run, followedBy, opens, begun, known, ready, goes, Standing, standing, start, stopped, steps}
 use Rattle.replay.specs.declared.Depth.{Depth}
 use Rattle.replay.specs.Requests.{deeper}
@@ -58,8 +59,8 @@ module _ (p q : Replica) (o o′ lines lines′ before after kept : List ℕ) (t
   stays-ended e = fill .idle (rw e) .1 .0 ∙ e
 
   same-run : (rest : List ℕ) → (v .ended ≡ true → rest ≡ [])
-      → run (ranOf (between p o before t)) (pieces (take (t .have) before ++ (fill .read ++ rest)))
-      ≡ followedBy (run (ranFrom first) (stepped .taken) .lines) (run (ranOf (between q o′ kept v)) (pieces (take (v .have) kept ++ rest)))
+      → run (ranOf (between p o before lines t)) (pieces (take (t .have) before ++ (fill .read ++ rest)))
+      ≡ followedBy (run (ranFrom first) (stepped .taken) .lines) (run (ranOf (between q o′ kept lines′ v)) (pieces (take (v .have) kept ++ rest)))
   same-run rest nothing =
       let on = run-goes-on (u .ended) (take (u .have) after) rest (λ e. nothing (keeps .ended ∙ e)) first (standing q o′ lines′ place) stepped in
       let hand : take (t .have) before ++ (fill .read ++ rest) ≡ take (u .have) after ++ rest
@@ -117,7 +118,7 @@ module _ (p q : Replica) (o o′ lines lines′ before after kept : List ℕ) (t
       by false true e k = inr (inr (at-hand e k))
       by false false e k = reading e k (eqb (length (fill .read)) 0) refl
 
-  pub turn-went : Went (between p o before t) (between q o′ kept v)
+  pub turn-went : Went (between p o before lines t) (between q o′ kept lines′ v)
   turn-went =
       record {
         read = fill .read;
@@ -125,6 +126,7 @@ module _ (p q : Replica) (o o′ lines lines′ before after kept : List ℕ) (t
         ended = λ e. keeps .ended ∙ stays-ended e;
         none = λ e. none-read (sym (keeps .ended) ∙ e);
         same = same-run;
+        given = stepped .holds .lines;
         most = no-more;
         gets-on = progress;
       }
@@ -174,32 +176,39 @@ no-turns zero x g r e is n = spent x
 no-turns (suc l) x g r e is n = done (2 ^ suc l - 1) x (sym e ∙ over-at l g r is n)
 
 -- ---- the whole program
-pub program-went : {buffer : List ℕ} {o : Opening} {c₀ c₁ c₂ : Counters} {m₁ m₂ : List ℕ} {s₂ : List Block} {o₂ : List ℕ} {a : ℕ} {place : Place} {t t₂ : Turn}
-    (m : List ℕ) (s : List Block) (out last-buffer : List ℕ) → FirstRead buffer o → c₀ ≡ opened → afterAnswer a (lentTo c₁ m₁ s) [] ≡ opens (lentTo c₀ m s) o
-    → place ≡ cond (eqb a 0) (start 1) stopped → t ≡ record { have = 0; ended = false; next = place .next }
-    → Turns (2 ^ 62 - 1) (between (lentTo c₁ m₁ s) out buffer t) (between (lentTo c₂ m₂ s₂) o₂ last-buffer t₂) → Program (2 ^ 62 - 1) m s out m₂ s₂ o₂ t₂
-unfolding begun
-program-went {buffer} {o} {c₀} {c₁} {c₂} {m₁} {m₂} {s₂} {o₂} {a} {place} {t} {t₂} m s out last-buffer f e₀ e₁ e₂ e₃ turns =
+pub program-went : {buffer : List ℕ} {o : Opening} {c₀ c₁ c₂ : Counters} {m₁ m₂ : List ℕ} {s₂ : List Block} {o₂ l₁ l₂ : List ℕ} {a : ℕ} {place : Place} {t t₂ : Turn}
+    (m : List ℕ) (s : List Block) (out l last-buffer : List ℕ) → FirstRead buffer o → c₀ ≡ opened → afterAnswer a (lentTo c₁ m₁ s) [] ≡ opens (lentTo c₀ m s) o
+    → (place ≡ cond (eqb a 0) (start 1) stopped) × (l₁ ≡ cond (eqb a 0) l (patch l 0 (lineBytes refusedOpening))) → t ≡ record { have = 0; ended = false; next = place .next }
+    → Turns (2 ^ 62 - 1) (between (lentTo c₁ m₁ s) out buffer l₁ t) (between (lentTo c₂ m₂ s₂) o₂ last-buffer l₂ t₂) → Program (2 ^ 62 - 1) m s out l m₂ s₂ o₂ l₂ t₂
+unfolding begun linesBytes
+program-went {buffer} {o} {c₀} {c₁} {c₂} {m₁} {m₂} {s₂} {o₂} {l₁} {l₂} {a} {place} {t} {t₂} m s out l last-buffer f e₀ e₁ e₂ e₃ turns =
     record {
       first = take (f .got) buffer;
       short = omega (arith, length-take (f .got) buffer, f .most);
       counters = c₂;
       buffer = last-buffer;
-      went = subst (λ (x : Between). Turns (2 ^ 62 - 1) x (between (lentTo c₂ m₂ s₂) o₂ last-buffer t₂)) (begins ∙ ap (λ (x : Answered). firstTurn (begun x out)) opened-as) turns;
+      went = subst (λ (x : Between). Turns (2 ^ 62 - 1) x (between (lentTo c₂ m₂ s₂) o₂ last-buffer l₂ t₂))
+          (begins ∙ ap (λ (x : Answered). firstTurn (begun x out) (patch l 0 (linesBytes (begun x out .lines)))) opened-as) turns;
     }
   where
     opened-as : afterAnswer a (lentTo c₁ m₁ s) [] ≡ opens (lentTo opened m s) (openingOf (take (f .got) buffer))
     opened-as = e₁ ∙ (ap (λ (c : Counters). opens (lentTo c m s) o) e₀ ∙ ap (opens (lentTo opened m s)) (f .is))
 
     by : (z : Bool)
-        → _≡_ {A = Between} (record { replica = lentTo c₁ m₁ s; output = out; hand = []; turn = record { have = 0; ended = false; next = cond z (start 1) stopped .next } })
-        (firstTurn (cond z (record { replica = lentTo c₁ m₁ s; output = out; lines = []; next = 1 }) (record { replica = lentTo c₁ m₁ s; output = out; lines = refusedOpening ∷ []; next = 0 })))
-    by true = refl
-    by false = refl
+        → _≡_ {A = Between}
+        (record { replica = lentTo c₁ m₁ s; output = out; hand = []; region = cond z l (patch l 0 (lineBytes refusedOpening)); turn = record { have = 0; ended = false; next = cond z (start 1) stopped .next } })
+        (let b = cond z (record { replica = lentTo c₁ m₁ s; output = out; lines = []; next = 1 }) (record { replica = lentTo c₁ m₁ s; output = out; lines = refusedOpening ∷ []; next = 0 }) in
+        firstTurn b (patch l 0 (linesBytes (b .lines))))
+    by true = ap (λ (r : List ℕ). record { replica = lentTo c₁ m₁ s; output = out; hand = []; region = r; turn = record { have = 0; ended = false; next = 1 } }) (sym (patch-nil l 0))
+    by false =
+        ap (λ (r : List ℕ). record { replica = lentTo c₁ m₁ s; output = out; hand = []; region = patch l 0 r; turn = record { have = 0; ended = false; next = 0 } }) (sym (append-nil (lineBytes refusedOpening)))
 
-    begins : between (lentTo c₁ m₁ s) out buffer t ≡ firstTurn (begun (afterAnswer a (lentTo c₁ m₁ s) []) out)
-    begins = (ap (between (lentTo c₁ m₁ s) out buffer) (e₃ ∙ ap (λ (p : Place). record { have = 0; ended = false; next = p .next }) e₂)) ∙ by (eqb a 0)
+    begins : between (lentTo c₁ m₁ s) out buffer l₁ t ≡ firstTurn (begun (afterAnswer a (lentTo c₁ m₁ s) []) out) (patch l 0 (linesBytes (begun (afterAnswer a (lentTo c₁ m₁ s) []) out .lines)))
+    begins =
+        ap (λ (r : List ℕ). between (lentTo c₁ m₁ s) out buffer r t) (e₂ .1)
+        ∙ (ap (between (lentTo c₁ m₁ s) out buffer (cond (eqb a 0) l (patch l 0 (lineBytes refusedOpening)))) (e₃ ∙ ap (λ (p : Place). record { have = 0; ended = false; next = p .next }) (e₂ .0)) ∙ by (eqb a 0))
 
-pub with-empty-store : {b : Block} {m o m′ o′ : List ℕ} {s′ : List Block} {t : Turn} → b ≡ emptyBlock → Program (2 ^ 62 - 1) m (replicate storeLength b) o m′ s′ o′ t → ProgramWithStore (2 ^ 62 - 1) m o m′ o′ t
-with-empty-store {m = m} {o = o} {m′ = m′} {o′ = o′} {s′ = s′} {t = t} e p =
-    record { store = s′; program = subst (λ (x : Block). Program (2 ^ 62 - 1) m (replicate storeLength x) o m′ s′ o′ t) e p }
+pub with-empty-store : {b : Block} {m o l m′ o′ l′ : List ℕ} {s′ : List Block} {t : Turn} → b ≡ emptyBlock
+    → Program (2 ^ 62 - 1) m (replicate storeLength b) o l m′ s′ o′ l′ t → ProgramWithStore (2 ^ 62 - 1) m o l m′ o′ l′ t
+with-empty-store {m = m} {o = o} {l = l} {m′ = m′} {o′ = o′} {l′ = l′} {s′ = s′} {t = t} e p =
+    record { store = s′; program = subst (λ (x : Block). Program (2 ^ 62 - 1) m (replicate storeLength x) o l m′ s′ o′ l′ t) e p }

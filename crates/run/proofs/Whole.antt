@@ -111,7 +111,7 @@ ends-there x n short rest nothing = by (eqb (x .turn .next) 0) (x .turn .ended) 
     by false false h p q r f = absurd (true≢false f)
 
 -- ---- the whole program: fewer than 2 ^ 60 bytes are read to their end
-pub comes-to-its-end : {m : List ℕ} {s : List Block} {o m′ : List ℕ} {s′ : List Block} {o′ : List ℕ} {t : Turn} (p : Program (2 ^ 62 - 1) m s o m′ s′ o′ t)
+pub comes-to-its-end : {m : List ℕ} {s : List Block} {o l m′ : List ℕ} {s′ : List Block} {o′ l′ : List ℕ} {t : Turn} (p : Program (2 ^ 62 - 1) m s o l m′ s′ o′ l′ t)
     → length (through (p .went) .read) < 2 ^ 60 → goesOn t ≡ false
 comes-to-its-end {t = t} p few = by (goesOn t) refl
   where
@@ -119,12 +119,12 @@ comes-to-its-end {t = t} p few = by (goesOn t) refl
     by true g = absurd (let f = turns-few (p .went) g in omega (arith, f, few))
     by false g = g
 
-module _ {most : ℕ} {m : List ℕ} {s : List Block} {o m′ : List ℕ} {s′ : List Block} {o′ : List ℕ} {t : Turn} (p : Program most m s o m′ s′ o′ t) (end : goesOn t ≡ false) where
+module _ {most : ℕ} {m : List ℕ} {s : List Block} {o l m′ : List ℕ} {s′ : List Block} {o′ l′ : List ℕ} {t : Turn} (p : Program most m s o l m′ s′ o′ l′ t) (end : goesOn t ≡ false) where
   abbrev begins : Ran
   begins = begun (opens (lentTo opened m s) (openingOf (p .first))) o
 
   abbrev ends : Between
-  ends = between (lentTo (p .counters) m′ s′) o′ (p .buffer) t
+  ends = between (lentTo (p .counters) m′ s′) o′ (p .buffer) l′ t
 
   -- what was read behind the first record, and the lines that were given
   pub read : List ℕ
@@ -155,7 +155,7 @@ module _ {most : ℕ} {m : List ℕ} {s : List Block} {o m′ : List ℕ} {s′ 
           let e : length (p .first) ≡ openingLength = omega (arith, h, p .short) in
           (ap (λ (k : ℕ). take k (p .first ++ c)) (sym e) ∙ take-append-seam (p .first) c, ap (λ (k : ℕ). drop k (p .first ++ c)) (sym e) ∙ drop-append-seam (p .first) c)
 
-  begins-as : begins ≡ followedBy (begins .lines) (ranOf (firstTurn begins))
+  begins-as : begins ≡ followedBy (begins .lines) (ranOf (firstTurn begins []))
   begins-as = λ i. record { replica = begins .replica; output = begins .output; lines = sym (append-nil (begins .lines)) i; next = begins .next }
 
   -- THE THEOREM: whatever follows in the input where the program stopped before its end
@@ -169,7 +169,7 @@ module _ {most : ℕ} {m : List ℕ} {s : List Block} {o m′ : List ℕ} {s′ 
       ap (λ (l : List ℕ). run (begun (opens (lentTo opened m s) (openingOf l)) o) (pieces (drop openingLength (p .first ++ c)))) (q .0)
       ∙ (ap (λ (l : List ℕ). run begins (pieces l)) (q .1)
       ∙ (ap (λ (z : Ran). run z (pieces c)) begins-as
-      ∙ (run-after (begins .lines) (ranOf (firstTurn begins)) (pieces c)
+      ∙ (run-after (begins .lines) (ranOf (firstTurn begins [])) (pieces c)
       ∙ (ap (followedBy (begins .lines)) (u .same rest nothing ∙ ap (followedBy (u .lines)) (ends-there ends end (λ z. rw z) rest nothing))
       ∙ λ i. record { replica = lentTo (p .counters) m′ s′; output = o′; lines = begins .lines ++ append-nil (u .lines) i; next = t .next }))))
 

@@ -96,8 +96,8 @@ fn take_turn(
     t: Turn,
 ) -> Turn
     requires { ⌜ (goesOn t ≡ true) × (lineLength ≤ length (now lines)) ⌝ }
-    ensures { λ r. ⌜ Went (between (lentTo (now (counters .entry)) (now (mem .entry)) (now (store .entry))) (now (out .entry)) (now (buf .entry)) t)
-        (between (lentTo (now (counters .exit)) (now (mem .exit)) (now (store .exit))) (now (out .exit)) (now (buf .exit)) r) ⌝ }
+    ensures { λ r. ⌜ Went (between (lentTo (now (counters .entry)) (now (mem .entry)) (now (store .entry))) (now (out .entry)) (now (buf .entry)) (now (lines .entry)) t)
+        (between (lentTo (now (counters .exit)) (now (mem .exit)) (now (store .exit))) (now (out .exit)) (now (buf .exit)) (now (lines .exit)) r) ⌝ }
 {
     let read = reading::refill(buf, t);
     let p = replay_known(counters, mem, store, out, buf, lines, read);
@@ -116,8 +116,8 @@ fn next_turn(
     t: Turn,
 ) -> Turn
     requires { ⌜ lineLength ≤ length (now lines) ⌝ }
-    ensures { λ r. ⌜ Turned (between (lentTo (now (counters .entry)) (now (mem .entry)) (now (store .entry))) (now (out .entry)) (now (buf .entry)) t)
-        (between (lentTo (now (counters .exit)) (now (mem .exit)) (now (store .exit))) (now (out .exit)) (now (buf .exit)) r) ⌝ }
+    ensures { λ r. ⌜ Turned (between (lentTo (now (counters .entry)) (now (mem .entry)) (now (store .entry))) (now (out .entry)) (now (buf .entry)) (now (lines .entry)) t)
+        (between (lentTo (now (counters .exit)) (now (mem .exit)) (now (store .exit))) (now (out .exit)) (now (buf .exit)) (now (lines .exit)) r) ⌝ }
 {
     let going = reading::goes_on(t);
     if going {
@@ -139,8 +139,8 @@ fn run_turns(
     t: Turn,
 ) -> Turn
     requires { ⌜ lineLength ≤ length (now lines) ⌝ }
-    ensures { λ r. ⌜ Turns (2 ^ level - 1) (between (lentTo (now (counters .entry)) (now (mem .entry)) (now (store .entry))) (now (out .entry)) (now (buf .entry)) t)
-        (between (lentTo (now (counters .exit)) (now (mem .exit)) (now (store .exit))) (now (out .exit)) (now (buf .exit)) r) ⌝ }
+    ensures { λ r. ⌜ Turns (2 ^ level - 1) (between (lentTo (now (counters .entry)) (now (mem .entry)) (now (store .entry))) (now (out .entry)) (now (buf .entry)) (now (lines .entry)) t)
+        (between (lentTo (now (counters .exit)) (now (mem .exit)) (now (store .exit))) (now (out .exit)) (now (buf .exit)) (now (lines .exit)) r) ⌝ }
 {
     let going = reading::goes_on(t);
     let b = shallower(level, going);
@@ -163,7 +163,7 @@ fn with_counters(
     lines: &mut [u8],
 ) -> Turn
     requires { ⌜ lineLength ≤ length (now lines) ⌝ }
-    ensures { λ r. ⌜ Program (2 ^ 62 - 1) (now (mem .entry)) (now (store .entry)) (now (out .entry)) (now (mem .exit)) (now (store .exit)) (now (out .exit)) r ⌝ }
+    ensures { λ r. ⌜ Program (2 ^ 62 - 1) (now (mem .entry)) (now (store .entry)) (now (out .entry)) (now (lines .entry)) (now (mem .exit)) (now (store .exit)) (now (out .exit)) (now (lines .exit)) r ⌝ }
 {
     let o = reading::first_record(buf);
     let mut c = opened();
@@ -176,7 +176,7 @@ fn with_counters(
 
 fn with_store(mem: &mut [u8], out: &mut [u8], buf: &mut [u8], lines: &mut [u8]) -> Turn
     requires { ⌜ lineLength ≤ length (now lines) ⌝ }
-    ensures { λ r. ⌜ ProgramWithStore (2 ^ 62 - 1) (now (mem .entry)) (now (out .entry)) (now (mem .exit)) (now (out .exit)) r ⌝ }
+    ensures { λ r. ⌜ ProgramWithStore (2 ^ 62 - 1) (now (mem .entry)) (now (out .entry)) (now (lines .entry)) (now (mem .exit)) (now (out .exit)) (now (lines .exit)) r ⌝ }
 {
     let zero = empty_block();
     let mut store = [zero; STORE_LENGTH];

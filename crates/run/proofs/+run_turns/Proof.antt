@@ -106,18 +106,18 @@ module _ {M : Type 1} (𝓤 : URA M) (H : Heap 𝓤) (A : Atoms 𝓤) (W : Given
       (λ joined0 on0 yes0. assigns ! (addr ! (from ! (hop ! (look ! 104 refl) (stop !)))) (from ! (stop !)) (init ! 76 refl (tt, tt)) $ assigns ! (addr ! (from ! (fld ! refl (hop ! (look-in ! 102 (sub ! 0 refl (whole !))) (stop !))))) (from ! (stop !)) (init ! 74 refl (tt, tt)) $ assigns ! (agg ! (and-then ! (load ! (from ! (stop !)) (look ! 74 refl)) (and-then ! (load ! (from ! (fld ! refl (stop !))) (look-in ! 102 (sub ! 1 refl (whole !)))) (no-more !)))) (from ! (stop !)) (init ! 72 refl (tt, (tt, (record { fits = m-room .0 }, tt)))) $ assigns ! (addr ! (from ! (fld ! refl (hop ! (look-in ! 100 (sub ! 0 refl (whole !))) (stop !))))) (from ! (stop !)) (init ! 70 refl (tt, tt)) $ assigns ! (agg ! (and-then ! (load ! (from ! (stop !)) (look ! 70 refl)) (and-then ! (load ! (from ! (fld ! refl (stop !))) (look-in ! 100 (sub ! 1 refl (whole !)))) (no-more !)))) (from ! (stop !)) (init ! 68 refl (tt, (tt, (record { fits = ys-room .0 }, tt)))) $ assigns ! (addr ! (from ! (fld ! refl (hop ! (look-in ! 98 (sub ! 0 refl (whole !))) (stop !))))) (from ! (stop !)) (init ! 66 refl (tt, tt)) $ assigns ! (agg ! (and-then ! (load ! (from ! (stop !)) (look ! 66 refl)) (and-then ! (load ! (from ! (fld ! refl (stop !))) (look-in ! 98 (sub ! 1 refl (whole !)))) (no-more !)))) (from ! (stop !)) (init ! 64 refl (tt, (tt, (record { fits = out-room .0 }, tt)))) $ assigns ! (addr ! (from ! (fld ! refl (hop ! (look-in ! 96 (sub ! 0 refl (whole !))) (stop !))))) (from ! (stop !)) (init ! 62 refl (tt, tt)) $ assigns ! (agg ! (and-then ! (load ! (from ! (stop !)) (look ! 62 refl)) (and-then ! (load ! (from ! (fld ! refl (stop !))) (look-in ! 96 (sub ! 1 refl (whole !)))) (no-more !)))) (from ! (stop !)) (init ! 60 refl (tt, (tt, (record { fits = buf-room .0 }, tt)))) $ assigns ! (addr ! (from ! (fld ! refl (hop ! (look-in ! 94 (sub ! 0 refl (whole !))) (stop !))))) (from ! (stop !)) (init ! 58 refl (tt, tt)) $ assigns ! (agg ! (and-then ! (load ! (from ! (stop !)) (look ! 58 refl)) (and-then ! (load ! (from ! (fld ! refl (stop !))) (look-in ! 94 (sub ! 1 refl (whole !)))) (no-more !)))) (from ! (stop !)) (init ! 56 refl (tt, (tt, (record { fits = ls-room .0 }, tt)))) $
       -- call 2: `run::run_turns`
       move ! (5 ∷ 11 ∷ []) $ lend-ref ! tt Countersᴿ cs-b cs-o cs (λ ν2-0 δ2-0. move ! (7 ∷ 12 ∷ []) $ lend-mut ! tt u8 m-b m-o m-n m refl (λ ν2-1 δ2-1. move ! (9 ∷ 13 ∷ []) $ lend-mut ! tt Blockᴿ ys-b ys-o ys-n ys refl (λ ν2-2 δ2-2. move ! (11 ∷ 14 ∷ []) $ lend-mut ! tt u8 out-b out-o out-n out refl (λ ν2-3 δ2-3. move ! (13 ∷ 15 ∷ []) $ lend-mut ! tt u8 buf-b buf-o buf-n buf refl (λ ν2-4 δ2-4. move ! (15 ∷ 16 ∷ []) $ lend-mut ! tt u8 ls-b ls-o ls-n ls refl (λ ν2-5 δ2-5.
-      let y2 : run-turnsᶜ 𝓤 H A mem run .Ghost = ((((ν2-0 ∷ []), ((ν2-1 ∷ []), ((ν2-2 ∷ []), ((ν2-3 ∷ []), ((ν2-4 ∷ []), ((ν2-5 ∷ []), tt)))))), (fullShare, (fullShare, (fullShare, (fullShare, (fullShare, (fullShare, tt)))))), tt, (pointing Countersᴿ cs-b cs-o δ2-0 cs, (lying u8 m-b m-o δ2-1 m, (lying Blockᴿ ys-b ys-o δ2-2 ys, (lying u8 out-b out-o δ2-3 out, (lying u8 buf-b buf-o δ2-4 buf, (lying u8 ls-b ls-o δ2-5 ls, ((r1 .level), (t, tt)))))))), (vptr cs-b cs-o ∷ [], (m-s ∷ [], (ys-s ∷ [], (out-s ∷ [], (buf-s ∷ [], (ls-s ∷ [], ((word .val (r1 .level)) ∷ [], ((Turnᴰ .val t) ∷ [], tt))))))))), tt) in move ! (15 ∷ 12 ∷ 9 ∷ 6 ∷ 3 ∷ 0 ∷ 16 ∷ 13 ∷ 10 ∷ 7 ∷ 4 ∷ 1 ∷ []) $ asks ! f.ended (f.clauses 𝓤 H A mem run) y2 12 (held (held (held (held (held (held (of W word (r1 .level) (Depth-level r1 is1) (of W Turnᴰ t t-is end)))))))) refl (so 𝓤 asked) $ calls-from ! fm (raw (run-turnsᶜ 𝓤 H A mem run .pre y2)) (run-turnsᶜ 𝓤 H A mem run .args y2) (run-turnsᶜ 𝓤 H A mem run .post y2) (self y2 (level-falls lv r0 r1 e1 (is-true (r1 .goes) yes0))) (and-then ! (load ! (from ! (stop !)) (look ! 71 refl)) (and-then ! (load ! (from ! (stop !)) (look ! 67 refl)) (and-then ! (load ! (from ! (stop !)) (look ! 63 refl)) (and-then ! (load ! (from ! (stop !)) (look ! 59 refl)) (and-then ! (load ! (from ! (stop !)) (look ! 55 refl)) (and-then ! (load ! (from ! (stop !)) (look ! 51 refl)) (and-then ! (load ! (from ! (fld ! {τ = tyInt w64} {d = 8} refl (stop !))) (look-in ! 81 {τ = tyInt w64} (sub ! 1 {τ = tyInt w64} {d = 8} refl (whole !)))) (and-then ! (load ! (from ! (stop !)) (look ! 85 refl)) (no-more !))))))))) (λ w2. came ! f.ended (f.clauses 𝓤 H A mem run) y2 w2 Turnᴰ 78 refl refl (true ∷ true ∷ true ∷ true ∷ true ∷ true ∷ false ∷ false ∷ []) (λ r ws. Turns (2 ^ (r1 .level) - 1) (between (lentTo cs m ys) out buf t) (between (lentTo (ws .0) (ws .1 .0) (ws .1 .1 .0)) (ws .1 .1 .1 .0) (ws .1 .1 .1 .1 .0) r)) (λ r ws. id⊢ 𝓤 _) (λ r2 ws2 is2 e2. move ! (0 ∷ 6 ∷ 17 ∷ []) $ back-ref ! tt Countersᴿ cs-b cs-o cs (ws2 .0) $ move ! (2 ∷ 7 ∷ 16 ∷ []) $ back-again ! tt u8 m-b m-o m-n m (ws2 .1 .0) m-room refl (λ l2-1. move ! (4 ∷ 8 ∷ 15 ∷ []) $ back-again ! tt Blockᴿ ys-b ys-o ys-n ys (ws2 .1 .1 .0) ys-room refl (λ l2-2. move ! (6 ∷ 9 ∷ 14 ∷ []) $ back-again ! tt u8 out-b out-o out-n out (ws2 .1 .1 .1 .0) out-room refl (λ l2-3. move ! (8 ∷ 10 ∷ 13 ∷ []) $ back-again ! tt u8 buf-b buf-o buf-n buf (ws2 .1 .1 .1 .1 .0) buf-room refl (λ l2-4. move ! (10 ∷ 11 ∷ 12 ∷ []) $ back-again ! tt u8 ls-b ls-o ls-n ls (ws2 .1 .1 .1 .1 .1 .0) ls-room refl (λ l2-5. assigns ! (addr ! (from ! (hop ! (look ! 104 refl) (stop !)))) (from ! (stop !)) (init ! 54 refl (tt, tt)) $ assigns ! (addr ! (from ! (fld ! refl (hop ! (look-in ! 102 (sub ! 0 refl (whole !))) (stop !))))) (from ! (stop !)) (init ! 52 refl (tt, tt)) $ assigns ! (agg ! (and-then ! (load ! (from ! (stop !)) (look ! 52 refl)) (and-then ! (load ! (from ! (fld ! refl (stop !))) (look-in ! 102 (sub ! 1 refl (whole !)))) (no-more !)))) (from ! (stop !)) (init ! 50 refl (tt, (tt, (record { fits = m-room .0 }, tt)))) $ assigns ! (addr ! (from ! (fld ! refl (hop ! (look-in ! 100 (sub ! 0 refl (whole !))) (stop !))))) (from ! (stop !)) (init ! 48 refl (tt, tt)) $ assigns ! (agg ! (and-then ! (load ! (from ! (stop !)) (look ! 48 refl)) (and-then ! (load ! (from ! (fld ! refl (stop !))) (look-in ! 100 (sub ! 1 refl (whole !)))) (no-more !)))) (from ! (stop !)) (init ! 46 refl (tt, (tt, (record { fits = ys-room .0 }, tt)))) $ assigns ! (addr ! (from ! (fld ! refl (hop ! (look-in ! 98 (sub ! 0 refl (whole !))) (stop !))))) (from ! (stop !)) (init ! 44 refl (tt, tt)) $ assigns ! (agg ! (and-then ! (load ! (from ! (stop !)) (look ! 44 refl)) (and-then ! (load ! (from ! (fld ! refl (stop !))) (look-in ! 98 (sub ! 1 refl (whole !)))) (no-more !)))) (from ! (stop !)) (init ! 42 refl (tt, (tt, (record { fits = out-room .0 }, tt)))) $ assigns ! (addr ! (from ! (fld ! refl (hop ! (look-in ! 96 (sub ! 0 refl (whole !))) (stop !))))) (from ! (stop !)) (init ! 40 refl (tt, tt)) $ assigns ! (agg ! (and-then ! (load ! (from ! (stop !)) (look ! 40 refl)) (and-then ! (load ! (from ! (fld ! refl (stop !))) (look-in ! 96 (sub ! 1 refl (whole !)))) (no-more !)))) (from ! (stop !)) (init ! 38 refl (tt, (tt, (record { fits = buf-room .0 }, tt)))) $ assigns ! (addr ! (from ! (fld ! refl (hop ! (look-in ! 94 (sub ! 0 refl (whole !))) (stop !))))) (from ! (stop !)) (init ! 36 refl (tt, tt)) $ assigns ! (agg ! (and-then ! (load ! (from ! (stop !)) (look ! 36 refl)) (and-then ! (load ! (from ! (fld ! refl (stop !))) (look-in ! 94 (sub ! 1 refl (whole !)))) (no-more !)))) (from ! (stop !)) (init ! 34 refl (tt, (tt, (record { fits = ls-room .0 }, tt)))) $
+      let y2 : run-turnsᶜ 𝓤 H A mem run .Ghost = ((((ν2-0 ∷ []), ((ν2-1 ∷ []), ((ν2-2 ∷ []), ((ν2-3 ∷ []), ((ν2-4 ∷ []), ((ν2-5 ∷ []), tt)))))), (fullShare, (fullShare, (fullShare, (fullShare, (fullShare, (fullShare, tt)))))), tt, (pointing Countersᴿ cs-b cs-o δ2-0 cs, (lying u8 m-b m-o δ2-1 m, (lying Blockᴿ ys-b ys-o δ2-2 ys, (lying u8 out-b out-o δ2-3 out, (lying u8 buf-b buf-o δ2-4 buf, (lying u8 ls-b ls-o δ2-5 ls, ((r1 .level), (t, tt)))))))), (vptr cs-b cs-o ∷ [], (m-s ∷ [], (ys-s ∷ [], (out-s ∷ [], (buf-s ∷ [], (ls-s ∷ [], ((word .val (r1 .level)) ∷ [], ((Turnᴰ .val t) ∷ [], tt))))))))), tt) in move ! (15 ∷ 12 ∷ 9 ∷ 6 ∷ 3 ∷ 0 ∷ 16 ∷ 13 ∷ 10 ∷ 7 ∷ 4 ∷ 1 ∷ []) $ asks ! f.ended (f.clauses 𝓤 H A mem run) y2 12 (held (held (held (held (held (held (of W word (r1 .level) (Depth-level r1 is1) (of W Turnᴰ t t-is end)))))))) refl (so 𝓤 asked) $ calls-from ! fm (raw (run-turnsᶜ 𝓤 H A mem run .pre y2)) (run-turnsᶜ 𝓤 H A mem run .args y2) (run-turnsᶜ 𝓤 H A mem run .post y2) (self y2 (level-falls lv r0 r1 e1 (is-true (r1 .goes) yes0))) (and-then ! (load ! (from ! (stop !)) (look ! 71 refl)) (and-then ! (load ! (from ! (stop !)) (look ! 67 refl)) (and-then ! (load ! (from ! (stop !)) (look ! 63 refl)) (and-then ! (load ! (from ! (stop !)) (look ! 59 refl)) (and-then ! (load ! (from ! (stop !)) (look ! 55 refl)) (and-then ! (load ! (from ! (stop !)) (look ! 51 refl)) (and-then ! (load ! (from ! (fld ! {τ = tyInt w64} {d = 8} refl (stop !))) (look-in ! 81 {τ = tyInt w64} (sub ! 1 {τ = tyInt w64} {d = 8} refl (whole !)))) (and-then ! (load ! (from ! (stop !)) (look ! 85 refl)) (no-more !))))))))) (λ w2. came ! f.ended (f.clauses 𝓤 H A mem run) y2 w2 Turnᴰ 78 refl refl (true ∷ true ∷ true ∷ true ∷ true ∷ true ∷ false ∷ false ∷ []) (λ r ws. Turns (2 ^ (r1 .level) - 1) (between (lentTo cs m ys) out buf ls t) (between (lentTo (ws .0) (ws .1 .0) (ws .1 .1 .0)) (ws .1 .1 .1 .0) (ws .1 .1 .1 .1 .0) (ws .1 .1 .1 .1 .1 .0) r)) (λ r ws. id⊢ 𝓤 _) (λ r2 ws2 is2 e2. move ! (0 ∷ 6 ∷ 17 ∷ []) $ back-ref ! tt Countersᴿ cs-b cs-o cs (ws2 .0) $ move ! (2 ∷ 7 ∷ 16 ∷ []) $ back-again ! tt u8 m-b m-o m-n m (ws2 .1 .0) m-room refl (λ l2-1. move ! (4 ∷ 8 ∷ 15 ∷ []) $ back-again ! tt Blockᴿ ys-b ys-o ys-n ys (ws2 .1 .1 .0) ys-room refl (λ l2-2. move ! (6 ∷ 9 ∷ 14 ∷ []) $ back-again ! tt u8 out-b out-o out-n out (ws2 .1 .1 .1 .0) out-room refl (λ l2-3. move ! (8 ∷ 10 ∷ 13 ∷ []) $ back-again ! tt u8 buf-b buf-o buf-n buf (ws2 .1 .1 .1 .1 .0) buf-room refl (λ l2-4. move ! (10 ∷ 11 ∷ 12 ∷ []) $ back-again ! tt u8 ls-b ls-o ls-n ls (ws2 .1 .1 .1 .1 .1 .0) ls-room refl (λ l2-5. assigns ! (addr ! (from ! (hop ! (look ! 104 refl) (stop !)))) (from ! (stop !)) (init ! 54 refl (tt, tt)) $ assigns ! (addr ! (from ! (fld ! refl (hop ! (look-in ! 102 (sub ! 0 refl (whole !))) (stop !))))) (from ! (stop !)) (init ! 52 refl (tt, tt)) $ assigns ! (agg ! (and-then ! (load ! (from ! (stop !)) (look ! 52 refl)) (and-then ! (load ! (from ! (fld ! refl (stop !))) (look-in ! 102 (sub ! 1 refl (whole !)))) (no-more !)))) (from ! (stop !)) (init ! 50 refl (tt, (tt, (record { fits = m-room .0 }, tt)))) $ assigns ! (addr ! (from ! (fld ! refl (hop ! (look-in ! 100 (sub ! 0 refl (whole !))) (stop !))))) (from ! (stop !)) (init ! 48 refl (tt, tt)) $ assigns ! (agg ! (and-then ! (load ! (from ! (stop !)) (look ! 48 refl)) (and-then ! (load ! (from ! (fld ! refl (stop !))) (look-in ! 100 (sub ! 1 refl (whole !)))) (no-more !)))) (from ! (stop !)) (init ! 46 refl (tt, (tt, (record { fits = ys-room .0 }, tt)))) $ assigns ! (addr ! (from ! (fld ! refl (hop ! (look-in ! 98 (sub ! 0 refl (whole !))) (stop !))))) (from ! (stop !)) (init ! 44 refl (tt, tt)) $ assigns ! (agg ! (and-then ! (load ! (from ! (stop !)) (look ! 44 refl)) (and-then ! (load ! (from ! (fld ! refl (stop !))) (look-in ! 98 (sub ! 1 refl (whole !)))) (no-more !)))) (from ! (stop !)) (init ! 42 refl (tt, (tt, (record { fits = out-room .0 }, tt)))) $ assigns ! (addr ! (from ! (fld ! refl (hop ! (look-in ! 96 (sub ! 0 refl (whole !))) (stop !))))) (from ! (stop !)) (init ! 40 refl (tt, tt)) $ assigns ! (agg ! (and-then ! (load ! (from ! (stop !)) (look ! 40 refl)) (and-then ! (load ! (from ! (fld ! refl (stop !))) (look-in ! 96 (sub ! 1 refl (whole !)))) (no-more !)))) (from ! (stop !)) (init ! 38 refl (tt, (tt, (record { fits = buf-room .0 }, tt)))) $ assigns ! (addr ! (from ! (fld ! refl (hop ! (look-in ! 94 (sub ! 0 refl (whole !))) (stop !))))) (from ! (stop !)) (init ! 36 refl (tt, tt)) $ assigns ! (agg ! (and-then ! (load ! (from ! (stop !)) (look ! 36 refl)) (and-then ! (load ! (from ! (fld ! refl (stop !))) (look-in ! 94 (sub ! 1 refl (whole !)))) (no-more !)))) (from ! (stop !)) (init ! 34 refl (tt, (tt, (record { fits = ls-room .0 }, tt)))) $
       -- call 3: `run::next_turn`
       move ! (10 ∷ 11 ∷ []) $ lend-ref ! tt Countersᴿ cs-b cs-o (ws2 .0) (λ ν3-0 δ3-0. move ! (11 ∷ 12 ∷ []) $ lend-mut ! tt u8 m-b m-o m-n (ws2 .1 .0) l2-1 (λ ν3-1 δ3-1. move ! (12 ∷ 13 ∷ []) $ lend-mut ! tt Blockᴿ ys-b ys-o ys-n (ws2 .1 .1 .0) l2-2 (λ ν3-2 δ3-2. move ! (13 ∷ 14 ∷ []) $ lend-mut ! tt u8 out-b out-o out-n (ws2 .1 .1 .1 .0) l2-3 (λ ν3-3 δ3-3. move ! (14 ∷ 15 ∷ []) $ lend-mut ! tt u8 buf-b buf-o buf-n (ws2 .1 .1 .1 .1 .0) l2-4 (λ ν3-4 δ3-4. move ! (15 ∷ 16 ∷ []) $ lend-mut ! tt u8 ls-b ls-o ls-n (ws2 .1 .1 .1 .1 .1 .0) l2-5 (λ ν3-5 δ3-5.
-      let y3 : next-turnᶜ 𝓤 H A mem run .Ghost = ((((ν3-0 ∷ []), ((ν3-1 ∷ []), ((ν3-2 ∷ []), ((ν3-3 ∷ []), ((ν3-4 ∷ []), ((ν3-5 ∷ []), tt)))))), (fullShare, (fullShare, (fullShare, (fullShare, (fullShare, (fullShare, tt)))))), tt, (pointing Countersᴿ cs-b cs-o δ3-0 (ws2 .0), (lying u8 m-b m-o δ3-1 (ws2 .1 .0), (lying Blockᴿ ys-b ys-o δ3-2 (ws2 .1 .1 .0), (lying u8 out-b out-o δ3-3 (ws2 .1 .1 .1 .0), (lying u8 buf-b buf-o δ3-4 (ws2 .1 .1 .1 .1 .0), (lying u8 ls-b ls-o δ3-5 (ws2 .1 .1 .1 .1 .1 .0), (r2, tt))))))), (vptr cs-b cs-o ∷ [], (m-s ∷ [], (ys-s ∷ [], (out-s ∷ [], (buf-s ∷ [], (ls-s ∷ [], ((Turnᴰ .val r2) ∷ [], tt)))))))), tt) in move ! (15 ∷ 12 ∷ 9 ∷ 6 ∷ 3 ∷ 0 ∷ 16 ∷ 13 ∷ 10 ∷ 7 ∷ 4 ∷ 1 ∷ []) $ asks ! next-turn.ended (next-turn.clauses 𝓤 H A mem run) y3 12 (held (held (held (held (held (held (of W Turnᴰ r2 is2 end))))))) refl (so 𝓤 (subst (λ (n : ℕ). lineLength ≤ n) (sym l2-5) asked)) $ calls-at ! fm (next-turnᶜ 𝓤 H A mem run) (known .1 .1) y3 (and-then ! (load ! (from ! (stop !)) (look ! 49 refl)) (and-then ! (load ! (from ! (stop !)) (look ! 45 refl)) (and-then ! (load ! (from ! (stop !)) (look ! 41 refl)) (and-then ! (load ! (from ! (stop !)) (look ! 37 refl)) (and-then ! (load ! (from ! (stop !)) (look ! 33 refl)) (and-then ! (load ! (from ! (stop !)) (look ! 29 refl)) (and-then ! (load ! (from ! (stop !)) (look ! 79 refl)) (no-more !)))))))) (λ w3. came ! next-turn.ended (next-turn.clauses 𝓤 H A mem run) y3 w3 Turnᴰ 76 refl refl (true ∷ true ∷ true ∷ true ∷ true ∷ true ∷ false ∷ []) (λ r ws. Turned (between (lentTo (ws2 .0) (ws2 .1 .0) (ws2 .1 .1 .0)) (ws2 .1 .1 .1 .0) (ws2 .1 .1 .1 .1 .0) r2) (between (lentTo (ws .0) (ws .1 .0) (ws .1 .1 .0)) (ws .1 .1 .1 .0) (ws .1 .1 .1 .1 .0) r)) (λ r ws. id⊢ 𝓤 _) (λ r3 ws3 is3 e3. move ! (0 ∷ 6 ∷ 17 ∷ []) $ back-ref ! tt Countersᴿ cs-b cs-o (ws2 .0) (ws3 .0) $ move ! (2 ∷ 7 ∷ 16 ∷ []) $ back-again ! tt u8 m-b m-o m-n (ws2 .1 .0) (ws3 .1 .0) m-room l2-1 (λ l3-1. move ! (4 ∷ 8 ∷ 15 ∷ []) $ back-again ! tt Blockᴿ ys-b ys-o ys-n (ws2 .1 .1 .0) (ws3 .1 .1 .0) ys-room l2-2 (λ l3-2. move ! (6 ∷ 9 ∷ 14 ∷ []) $ back-again ! tt u8 out-b out-o out-n (ws2 .1 .1 .1 .0) (ws3 .1 .1 .1 .0) out-room l2-3 (λ l3-3. move ! (8 ∷ 10 ∷ 13 ∷ []) $ back-again ! tt u8 buf-b buf-o buf-n (ws2 .1 .1 .1 .1 .0) (ws3 .1 .1 .1 .1 .0) buf-room l2-4 (λ l3-4. move ! (10 ∷ 11 ∷ 12 ∷ []) $ back-again ! tt u8 ls-b ls-o ls-n (ws2 .1 .1 .1 .1 .1 .0) (ws3 .1 .1 .1 .1 .1 .0) ls-room l2-5 (λ l3-5. assigns ! (addr ! (from ! (hop ! (look ! 104 refl) (stop !)))) (from ! (stop !)) (init ! 32 refl (tt, tt)) $ assigns ! (addr ! (from ! (fld ! refl (hop ! (look-in ! 102 (sub ! 0 refl (whole !))) (stop !))))) (from ! (stop !)) (init ! 30 refl (tt, tt)) $ assigns ! (agg ! (and-then ! (load ! (from ! (stop !)) (look ! 30 refl)) (and-then ! (load ! (from ! (fld ! refl (stop !))) (look-in ! 102 (sub ! 1 refl (whole !)))) (no-more !)))) (from ! (stop !)) (init ! 28 refl (tt, (tt, (record { fits = m-room .0 }, tt)))) $ assigns ! (addr ! (from ! (fld ! refl (hop ! (look-in ! 100 (sub ! 0 refl (whole !))) (stop !))))) (from ! (stop !)) (init ! 26 refl (tt, tt)) $ assigns ! (agg ! (and-then ! (load ! (from ! (stop !)) (look ! 26 refl)) (and-then ! (load ! (from ! (fld ! refl (stop !))) (look-in ! 100 (sub ! 1 refl (whole !)))) (no-more !)))) (from ! (stop !)) (init ! 24 refl (tt, (tt, (record { fits = ys-room .0 }, tt)))) $ assigns ! (addr ! (from ! (fld ! refl (hop ! (look-in ! 98 (sub ! 0 refl (whole !))) (stop !))))) (from ! (stop !)) (init ! 22 refl (tt, tt)) $ assigns ! (agg ! (and-then ! (load ! (from ! (stop !)) (look ! 22 refl)) (and-then ! (load ! (from ! (fld ! refl (stop !))) (look-in ! 98 (sub ! 1 refl (whole !)))) (no-more !)))) (from ! (stop !)) (init ! 20 refl (tt, (tt, (record { fits = out-room .0 }, tt)))) $ assigns ! (addr ! (from ! (fld ! refl (hop ! (look-in ! 96 (sub ! 0 refl (whole !))) (stop !))))) (from ! (stop !)) (init ! 18 refl (tt, tt)) $ assigns ! (agg ! (and-then ! (load ! (from ! (stop !)) (look ! 18 refl)) (and-then ! (load ! (from ! (fld ! refl (stop !))) (look-in ! 96 (sub ! 1 refl (whole !)))) (no-more !)))) (from ! (stop !)) (init ! 16 refl (tt, (tt, (record { fits = buf-room .0 }, tt)))) $ assigns ! (addr ! (from ! (fld ! refl (hop ! (look-in ! 94 (sub ! 0 refl (whole !))) (stop !))))) (from ! (stop !)) (init ! 14 refl (tt, tt)) $ assigns ! (agg ! (and-then ! (load ! (from ! (stop !)) (look ! 14 refl)) (and-then ! (load ! (from ! (fld ! refl (stop !))) (look-in ! 94 (sub ! 1 refl (whole !)))) (no-more !)))) (from ! (stop !)) (init ! 12 refl (tt, (tt, (record { fits = ls-room .0 }, tt)))) $
+      let y3 : next-turnᶜ 𝓤 H A mem run .Ghost = ((((ν3-0 ∷ []), ((ν3-1 ∷ []), ((ν3-2 ∷ []), ((ν3-3 ∷ []), ((ν3-4 ∷ []), ((ν3-5 ∷ []), tt)))))), (fullShare, (fullShare, (fullShare, (fullShare, (fullShare, (fullShare, tt)))))), tt, (pointing Countersᴿ cs-b cs-o δ3-0 (ws2 .0), (lying u8 m-b m-o δ3-1 (ws2 .1 .0), (lying Blockᴿ ys-b ys-o δ3-2 (ws2 .1 .1 .0), (lying u8 out-b out-o δ3-3 (ws2 .1 .1 .1 .0), (lying u8 buf-b buf-o δ3-4 (ws2 .1 .1 .1 .1 .0), (lying u8 ls-b ls-o δ3-5 (ws2 .1 .1 .1 .1 .1 .0), (r2, tt))))))), (vptr cs-b cs-o ∷ [], (m-s ∷ [], (ys-s ∷ [], (out-s ∷ [], (buf-s ∷ [], (ls-s ∷ [], ((Turnᴰ .val r2) ∷ [], tt)))))))), tt) in move ! (15 ∷ 12 ∷ 9 ∷ 6 ∷ 3 ∷ 0 ∷ 16 ∷ 13 ∷ 10 ∷ 7 ∷ 4 ∷ 1 ∷ []) $ asks ! next-turn.ended (next-turn.clauses 𝓤 H A mem run) y3 12 (held (held (held (held (held (held (of W Turnᴰ r2 is2 end))))))) refl (so 𝓤 (subst (λ (n : ℕ). lineLength ≤ n) (sym l2-5) asked)) $ calls-at ! fm (next-turnᶜ 𝓤 H A mem run) (known .1 .1) y3 (and-then ! (load ! (from ! (stop !)) (look ! 49 refl)) (and-then ! (load ! (from ! (stop !)) (look ! 45 refl)) (and-then ! (load ! (from ! (stop !)) (look ! 41 refl)) (and-then ! (load ! (from ! (stop !)) (look ! 37 refl)) (and-then ! (load ! (from ! (stop !)) (look ! 33 refl)) (and-then ! (load ! (from ! (stop !)) (look ! 29 refl)) (and-then ! (load ! (from ! (stop !)) (look ! 79 refl)) (no-more !)))))))) (λ w3. came ! next-turn.ended (next-turn.clauses 𝓤 H A mem run) y3 w3 Turnᴰ 76 refl refl (true ∷ true ∷ true ∷ true ∷ true ∷ true ∷ false ∷ []) (λ r ws. Turned (between (lentTo (ws2 .0) (ws2 .1 .0) (ws2 .1 .1 .0)) (ws2 .1 .1 .1 .0) (ws2 .1 .1 .1 .1 .0) (ws2 .1 .1 .1 .1 .1 .0) r2) (between (lentTo (ws .0) (ws .1 .0) (ws .1 .1 .0)) (ws .1 .1 .1 .0) (ws .1 .1 .1 .1 .0) (ws .1 .1 .1 .1 .1 .0) r)) (λ r ws. id⊢ 𝓤 _) (λ r3 ws3 is3 e3. move ! (0 ∷ 6 ∷ 17 ∷ []) $ back-ref ! tt Countersᴿ cs-b cs-o (ws2 .0) (ws3 .0) $ move ! (2 ∷ 7 ∷ 16 ∷ []) $ back-again ! tt u8 m-b m-o m-n (ws2 .1 .0) (ws3 .1 .0) m-room l2-1 (λ l3-1. move ! (4 ∷ 8 ∷ 15 ∷ []) $ back-again ! tt Blockᴿ ys-b ys-o ys-n (ws2 .1 .1 .0) (ws3 .1 .1 .0) ys-room l2-2 (λ l3-2. move ! (6 ∷ 9 ∷ 14 ∷ []) $ back-again ! tt u8 out-b out-o out-n (ws2 .1 .1 .1 .0) (ws3 .1 .1 .1 .0) out-room l2-3 (λ l3-3. move ! (8 ∷ 10 ∷ 13 ∷ []) $ back-again ! tt u8 buf-b buf-o buf-n (ws2 .1 .1 .1 .1 .0) (ws3 .1 .1 .1 .1 .0) buf-room l2-4 (λ l3-4. move ! (10 ∷ 11 ∷ 12 ∷ []) $ back-again ! tt u8 ls-b ls-o ls-n (ws2 .1 .1 .1 .1 .1 .0) (ws3 .1 .1 .1 .1 .1 .0) ls-room l2-5 (λ l3-5. assigns ! (addr ! (from ! (hop ! (look ! 104 refl) (stop !)))) (from ! (stop !)) (init ! 32 refl (tt, tt)) $ assigns ! (addr ! (from ! (fld ! refl (hop ! (look-in ! 102 (sub ! 0 refl (whole !))) (stop !))))) (from ! (stop !)) (init ! 30 refl (tt, tt)) $ assigns ! (agg ! (and-then ! (load ! (from ! (stop !)) (look ! 30 refl)) (and-then ! (load ! (from ! (fld ! refl (stop !))) (look-in ! 102 (sub ! 1 refl (whole !)))) (no-more !)))) (from ! (stop !)) (init ! 28 refl (tt, (tt, (record { fits = m-room .0 }, tt)))) $ assigns ! (addr ! (from ! (fld ! refl (hop ! (look-in ! 100 (sub ! 0 refl (whole !))) (stop !))))) (from ! (stop !)) (init ! 26 refl (tt, tt)) $ assigns ! (agg ! (and-then ! (load ! (from ! (stop !)) (look ! 26 refl)) (and-then ! (load ! (from ! (fld ! refl (stop !))) (look-in ! 100 (sub ! 1 refl (whole !)))) (no-more !)))) (from ! (stop !)) (init ! 24 refl (tt, (tt, (record { fits = ys-room .0 }, tt)))) $ assigns ! (addr ! (from ! (fld ! refl (hop ! (look-in ! 98 (sub ! 0 refl (whole !))) (stop !))))) (from ! (stop !)) (init ! 22 refl (tt, tt)) $ assigns ! (agg ! (and-then ! (load ! (from ! (stop !)) (look ! 22 refl)) (and-then ! (load ! (from ! (fld ! refl (stop !))) (look-in ! 98 (sub ! 1 refl (whole !)))) (no-more !)))) (from ! (stop !)) (init ! 20 refl (tt, (tt, (record { fits = out-room .0 }, tt)))) $ assigns ! (addr ! (from ! (fld ! refl (hop ! (look-in ! 96 (sub ! 0 refl (whole !))) (stop !))))) (from ! (stop !)) (init ! 18 refl (tt, tt)) $ assigns ! (agg ! (and-then ! (load ! (from ! (stop !)) (look ! 18 refl)) (and-then ! (load ! (from ! (fld ! refl (stop !))) (look-in ! 96 (sub ! 1 refl (whole !)))) (no-more !)))) (from ! (stop !)) (init ! 16 refl (tt, (tt, (record { fits = buf-room .0 }, tt)))) $ assigns ! (addr ! (from ! (fld ! refl (hop ! (look-in ! 94 (sub ! 0 refl (whole !))) (stop !))))) (from ! (stop !)) (init ! 14 refl (tt, tt)) $ assigns ! (agg ! (and-then ! (load ! (from ! (stop !)) (look ! 14 refl)) (and-then ! (load ! (from ! (fld ! refl (stop !))) (look-in ! 94 (sub ! 1 refl (whole !)))) (no-more !)))) (from ! (stop !)) (init ! 12 refl (tt, (tt, (record { fits = ls-room .0 }, tt)))) $
       -- call 4: `run::run_turns`
       move ! (10 ∷ 11 ∷ []) $ lend-ref ! tt Countersᴿ cs-b cs-o (ws3 .0) (λ ν4-0 δ4-0. move ! (11 ∷ 12 ∷ []) $ lend-mut ! tt u8 m-b m-o m-n (ws3 .1 .0) l3-1 (λ ν4-1 δ4-1. move ! (12 ∷ 13 ∷ []) $ lend-mut ! tt Blockᴿ ys-b ys-o ys-n (ws3 .1 .1 .0) l3-2 (λ ν4-2 δ4-2. move ! (13 ∷ 14 ∷ []) $ lend-mut ! tt u8 out-b out-o out-n (ws3 .1 .1 .1 .0) l3-3 (λ ν4-3 δ4-3. move ! (14 ∷ 15 ∷ []) $ lend-mut ! tt u8 buf-b buf-o buf-n (ws3 .1 .1 .1 .1 .0) l3-4 (λ ν4-4 δ4-4. move ! (15 ∷ 16 ∷ []) $ lend-mut ! tt u8 ls-b ls-o ls-n (ws3 .1 .1 .1 .1 .1 .0) l3-5 (λ ν4-5 δ4-5.
-      let y4 : run-turnsᶜ 𝓤 H A mem run .Ghost = ((((ν4-0 ∷ []), ((ν4-1 ∷ []), ((ν4-2 ∷ []), ((ν4-3 ∷ []), ((ν4-4 ∷ []), ((ν4-5 ∷ []), tt)))))), (fullShare, (fullShare, (fullShare, (fullShare, (fullShare, (fullShare, tt)))))), tt, (pointing Countersᴿ cs-b cs-o δ4-0 (ws3 .0), (lying u8 m-b m-o δ4-1 (ws3 .1 .0), (lying Blockᴿ ys-b ys-o δ4-2 (ws3 .1 .1 .0), (lying u8 out-b out-o δ4-3 (ws3 .1 .1 .1 .0), (lying u8 buf-b buf-o δ4-4 (ws3 .1 .1 .1 .1 .0), (lying u8 ls-b ls-o δ4-5 (ws3 .1 .1 .1 .1 .1 .0), ((r1 .level), (r3, tt)))))))), (vptr cs-b cs-o ∷ [], (m-s ∷ [], (ys-s ∷ [], (out-s ∷ [], (buf-s ∷ [], (ls-s ∷ [], ((word .val (r1 .level)) ∷ [], ((Turnᴰ .val r3) ∷ [], tt))))))))), tt) in move ! (15 ∷ 12 ∷ 9 ∷ 6 ∷ 3 ∷ 0 ∷ 16 ∷ 13 ∷ 10 ∷ 7 ∷ 4 ∷ 1 ∷ []) $ asks ! f.ended (f.clauses 𝓤 H A mem run) y4 12 (held (held (held (held (held (held (of W word (r1 .level) (Depth-level r1 is1) (of W Turnᴰ r3 is3 end)))))))) refl (so 𝓤 (subst (λ (n : ℕ). lineLength ≤ n) (sym l3-5) asked)) $ calls-from-last ! fm (raw (run-turnsᶜ 𝓤 H A mem run .pre y4)) (run-turnsᶜ 𝓤 H A mem run .args y4) (run-turnsᶜ 𝓤 H A mem run .post y4) (self y4 (level-falls lv r0 r1 e1 (is-true (r1 .goes) yes0))) (and-then ! (load ! (from ! (stop !)) (look ! 27 refl)) (and-then ! (load ! (from ! (stop !)) (look ! 23 refl)) (and-then ! (load ! (from ! (stop !)) (look ! 19 refl)) (and-then ! (load ! (from ! (stop !)) (look ! 15 refl)) (and-then ! (load ! (from ! (stop !)) (look ! 11 refl)) (and-then ! (load ! (from ! (stop !)) (look ! 7 refl)) (and-then ! (load ! (from ! (fld ! {τ = tyInt w64} {d = 8} refl (stop !))) (look-in ! 81 {τ = tyInt w64} (sub ! 1 {τ = tyInt w64} {d = 8} refl (whole !)))) (and-then ! (load ! (from ! (stop !)) (look ! 77 refl)) (no-more !))))))))) (λ w4. came-last ! f.ended (f.clauses 𝓤 H A mem run) y4 w4 Turnᴰ 72 refl refl (true ∷ true ∷ true ∷ true ∷ true ∷ true ∷ false ∷ false ∷ []) (λ r ws. Turns (2 ^ (r1 .level) - 1) (between (lentTo (ws3 .0) (ws3 .1 .0) (ws3 .1 .1 .0)) (ws3 .1 .1 .1 .0) (ws3 .1 .1 .1 .1 .0) r3) (between (lentTo (ws .0) (ws .1 .0) (ws .1 .1 .0)) (ws .1 .1 .1 .0) (ws .1 .1 .1 .1 .0) r)) (λ r ws. id⊢ 𝓤 _) (λ r4 ws4 is4 e4. on0 _ $ move ! (0 ∷ 6 ∷ 17 ∷ []) $ back-ref ! tt Countersᴿ cs-b cs-o (ws3 .0) (ws4 .0) $ move ! (2 ∷ 7 ∷ 16 ∷ []) $ back-again ! tt u8 m-b m-o m-n (ws3 .1 .0) (ws4 .1 .0) m-room l3-1 (λ l4-1. move ! (4 ∷ 8 ∷ 15 ∷ []) $ back-again ! tt Blockᴿ ys-b ys-o ys-n (ws3 .1 .1 .0) (ws4 .1 .1 .0) ys-room l3-2 (λ l4-2. move ! (6 ∷ 9 ∷ 14 ∷ []) $ back-again ! tt u8 out-b out-o out-n (ws3 .1 .1 .1 .0) (ws4 .1 .1 .1 .0) out-room l3-3 (λ l4-3. move ! (8 ∷ 10 ∷ 13 ∷ []) $ back-again ! tt u8 buf-b buf-o buf-n (ws3 .1 .1 .1 .1 .0) (ws4 .1 .1 .1 .1 .0) buf-room l3-4 (λ l4-4. move ! (10 ∷ 11 ∷ 12 ∷ []) $ back-again ! tt u8 ls-b ls-o ls-n (ws3 .1 .1 .1 .1 .1 .0) (ws4 .1 .1 .1 .1 .1 .0) ls-room l3-5 (λ l4-5. assigns ! (of-opd ! (load ! (from ! (stop !)) (look ! 78 refl))) (from ! (stop !)) (init ! 106 refl (fits W Turnᴰ r4 is4 .0)) $
+      let y4 : run-turnsᶜ 𝓤 H A mem run .Ghost = ((((ν4-0 ∷ []), ((ν4-1 ∷ []), ((ν4-2 ∷ []), ((ν4-3 ∷ []), ((ν4-4 ∷ []), ((ν4-5 ∷ []), tt)))))), (fullShare, (fullShare, (fullShare, (fullShare, (fullShare, (fullShare, tt)))))), tt, (pointing Countersᴿ cs-b cs-o δ4-0 (ws3 .0), (lying u8 m-b m-o δ4-1 (ws3 .1 .0), (lying Blockᴿ ys-b ys-o δ4-2 (ws3 .1 .1 .0), (lying u8 out-b out-o δ4-3 (ws3 .1 .1 .1 .0), (lying u8 buf-b buf-o δ4-4 (ws3 .1 .1 .1 .1 .0), (lying u8 ls-b ls-o δ4-5 (ws3 .1 .1 .1 .1 .1 .0), ((r1 .level), (r3, tt)))))))), (vptr cs-b cs-o ∷ [], (m-s ∷ [], (ys-s ∷ [], (out-s ∷ [], (buf-s ∷ [], (ls-s ∷ [], ((word .val (r1 .level)) ∷ [], ((Turnᴰ .val r3) ∷ [], tt))))))))), tt) in move ! (15 ∷ 12 ∷ 9 ∷ 6 ∷ 3 ∷ 0 ∷ 16 ∷ 13 ∷ 10 ∷ 7 ∷ 4 ∷ 1 ∷ []) $ asks ! f.ended (f.clauses 𝓤 H A mem run) y4 12 (held (held (held (held (held (held (of W word (r1 .level) (Depth-level r1 is1) (of W Turnᴰ r3 is3 end)))))))) refl (so 𝓤 (subst (λ (n : ℕ). lineLength ≤ n) (sym l3-5) asked)) $ calls-from-last ! fm (raw (run-turnsᶜ 𝓤 H A mem run .pre y4)) (run-turnsᶜ 𝓤 H A mem run .args y4) (run-turnsᶜ 𝓤 H A mem run .post y4) (self y4 (level-falls lv r0 r1 e1 (is-true (r1 .goes) yes0))) (and-then ! (load ! (from ! (stop !)) (look ! 27 refl)) (and-then ! (load ! (from ! (stop !)) (look ! 23 refl)) (and-then ! (load ! (from ! (stop !)) (look ! 19 refl)) (and-then ! (load ! (from ! (stop !)) (look ! 15 refl)) (and-then ! (load ! (from ! (stop !)) (look ! 11 refl)) (and-then ! (load ! (from ! (stop !)) (look ! 7 refl)) (and-then ! (load ! (from ! (fld ! {τ = tyInt w64} {d = 8} refl (stop !))) (look-in ! 81 {τ = tyInt w64} (sub ! 1 {τ = tyInt w64} {d = 8} refl (whole !)))) (and-then ! (load ! (from ! (stop !)) (look ! 77 refl)) (no-more !))))))))) (λ w4. came-last ! f.ended (f.clauses 𝓤 H A mem run) y4 w4 Turnᴰ 72 refl refl (true ∷ true ∷ true ∷ true ∷ true ∷ true ∷ false ∷ false ∷ []) (λ r ws. Turns (2 ^ (r1 .level) - 1) (between (lentTo (ws3 .0) (ws3 .1 .0) (ws3 .1 .1 .0)) (ws3 .1 .1 .1 .0) (ws3 .1 .1 .1 .1 .0) (ws3 .1 .1 .1 .1 .1 .0) r3) (between (lentTo (ws .0) (ws .1 .0) (ws .1 .1 .0)) (ws .1 .1 .1 .0) (ws .1 .1 .1 .1 .0) (ws .1 .1 .1 .1 .1 .0) r)) (λ r ws. id⊢ 𝓤 _) (λ r4 ws4 is4 e4. on0 _ $ move ! (0 ∷ 6 ∷ 17 ∷ []) $ back-ref ! tt Countersᴿ cs-b cs-o (ws3 .0) (ws4 .0) $ move ! (2 ∷ 7 ∷ 16 ∷ []) $ back-again ! tt u8 m-b m-o m-n (ws3 .1 .0) (ws4 .1 .0) m-room l3-1 (λ l4-1. move ! (4 ∷ 8 ∷ 15 ∷ []) $ back-again ! tt Blockᴿ ys-b ys-o ys-n (ws3 .1 .1 .0) (ws4 .1 .1 .0) ys-room l3-2 (λ l4-2. move ! (6 ∷ 9 ∷ 14 ∷ []) $ back-again ! tt u8 out-b out-o out-n (ws3 .1 .1 .1 .0) (ws4 .1 .1 .1 .0) out-room l3-3 (λ l4-3. move ! (8 ∷ 10 ∷ 13 ∷ []) $ back-again ! tt u8 buf-b buf-o buf-n (ws3 .1 .1 .1 .1 .0) (ws4 .1 .1 .1 .1 .0) buf-room l3-4 (λ l4-4. move ! (10 ∷ 11 ∷ 12 ∷ []) $ back-again ! tt u8 ls-b ls-o ls-n (ws3 .1 .1 .1 .1 .1 .0) (ws4 .1 .1 .1 .1 .1 .0) ls-room l3-5 (λ l4-5. assigns ! (of-opd ! (load ! (from ! (stop !)) (look ! 78 refl))) (from ! (stop !)) (init ! 106 refl (fits W Turnᴰ r4 is4 .0)) $
       -- the exit
       returns ! (look ! 106 refl) $ leave ! 12 (full _ ∷ full _ ∷ full _ ∷ full _ ∷ full _ ∷ full _ ∷ full _ ∷ full _ ∷ full _ ∷ full _ ∷ full _ ∷ full _ ∷ full _ ∷ full _ ∷ full _ ∷ full _ ∷ full _ ∷ full _ ∷ full _ ∷ full _ ∷ full _ ∷ full _ ∷ full _ ∷ full _ ∷ full _ ∷ full _ ∷ full _ ∷ full _ ∷ full _ ∷ full _ ∷ full _ ∷ full _ ∷ full _ ∷ full _ ∷ full _ ∷ full _ ∷ full _ ∷ full _ ∷ full _ ∷ full _ ∷ full _ ∷ full _ ∷ full _ ∷ full _ ∷ full _ ∷ full _ ∷ full _ ∷ full _ ∷ []) refl $ keep ! (11 ∷ 9 ∷ 7 ∷ 5 ∷ 3 ∷ 1 ∷ 10 ∷ 8 ∷ 6 ∷ 4 ∷ 2 ∷ 0 ∷ []) $ ends W f.ended stayed (f.clauses 𝓤 H A mem run) y (Turnᴰ .val r4) r4 ((ws4 .0), ((ws4 .1 .0), ((ws4 .1 .1 .0), ((ws4 .1 .1 .1 .0), ((ws4 .1 .1 .1 .1 .0), ((ws4 .1 .1 .1 .1 .1 .0), (tt, (tt, tt)))))))) (tt, (l4-1, (l4-2, (l4-3, (l4-4, (l4-5, (tt, (tt, tt)))))))) (Turnᴰ .makes 𝓤 H A W r4 _ is4) (so 𝓤 (turns-halves lv r0 r1 e1 (is-true (r1 .goes) yes0) e2 e3 e4)) (held (held (held (held (held (held (made (id⊢ 𝓤 _) (made (id⊢ 𝓤 _) end))))))))))))))))))))))))))))))))))))))))))))))))
       (λ joined0 on0 no0. assigns-last ! (of-opd ! (load ! (from ! (stop !)) (look ! 90 refl))) (from ! (stop !)) (init ! 78 refl (fits W Turnᴰ t t-is .0)) $ on0 _ $ assigns ! (of-opd ! (load ! (from ! (stop !)) (look ! 78 refl))) (from ! (stop !)) (init ! 106 refl (fits W Turnᴰ t t-is .0)) $
       -- the exit
-      returns ! (look ! 106 refl) $ leave ! 12 (full _ ∷ full _ ∷ full _ ∷ full _ ∷ full _ ∷ full _ ∷ full _ ∷ full _ ∷ full _ ∷ full _ ∷ full _ ∷ empty ∷ empty ∷ full _ ∷ full _ ∷ empty ∷ empty ∷ empty ∷ empty ∷ empty ∷ empty ∷ empty ∷ empty ∷ empty ∷ empty ∷ empty ∷ empty ∷ empty ∷ empty ∷ empty ∷ empty ∷ empty ∷ empty ∷ empty ∷ empty ∷ empty ∷ empty ∷ empty ∷ empty ∷ empty ∷ empty ∷ empty ∷ empty ∷ empty ∷ empty ∷ empty ∷ empty ∷ empty ∷ []) refl $ keep ! (11 ∷ 10 ∷ 9 ∷ 8 ∷ 7 ∷ 6 ∷ 5 ∷ 4 ∷ 3 ∷ 2 ∷ 1 ∷ 0 ∷ []) $ ends W f.ended stayed (f.clauses 𝓤 H A mem run) y (Turnᴰ .val t) t (cs, (m, (ys, (out, (buf, (ls, (tt, (tt, tt)))))))) (tt, (refl, (refl, (refl, (refl, (refl, (tt, (tt, tt)))))))) (Turnᴰ .makes 𝓤 H A W t _ t-is) (so 𝓤 (no-turns lv (between (lentTo cs m ys) out buf t) r0 r1 e0 e1 (is-false (r1 .goes) no0))) (held (held (held (held (held (held (made (id⊢ 𝓤 _) (made (id⊢ 𝓤 _) end)))))))))))))))))))))))))))))))))))))))))))))))))))))))))))))
+      returns ! (look ! 106 refl) $ leave ! 12 (full _ ∷ full _ ∷ full _ ∷ full _ ∷ full _ ∷ full _ ∷ full _ ∷ full _ ∷ full _ ∷ full _ ∷ full _ ∷ empty ∷ empty ∷ full _ ∷ full _ ∷ empty ∷ empty ∷ empty ∷ empty ∷ empty ∷ empty ∷ empty ∷ empty ∷ empty ∷ empty ∷ empty ∷ empty ∷ empty ∷ empty ∷ empty ∷ empty ∷ empty ∷ empty ∷ empty ∷ empty ∷ empty ∷ empty ∷ empty ∷ empty ∷ empty ∷ empty ∷ empty ∷ empty ∷ empty ∷ empty ∷ empty ∷ empty ∷ empty ∷ []) refl $ keep ! (11 ∷ 10 ∷ 9 ∷ 8 ∷ 7 ∷ 6 ∷ 5 ∷ 4 ∷ 3 ∷ 2 ∷ 1 ∷ 0 ∷ []) $ ends W f.ended stayed (f.clauses 𝓤 H A mem run) y (Turnᴰ .val t) t (cs, (m, (ys, (out, (buf, (ls, (tt, (tt, tt)))))))) (tt, (refl, (refl, (refl, (refl, (refl, (tt, (tt, tt)))))))) (Turnᴰ .makes 𝓤 H A W t _ t-is) (so 𝓤 (no-turns lv (between (lentTo cs m ys) out buf ls t) r0 r1 e0 e1 (is-false (r1 .goes) no0))) (held (held (held (held (held (held (made (id⊢ 𝓤 _) (made (id⊢ 𝓤 _) end)))))))))))))))))))))))))))))))))))))))))))))))))))))))))))))
 
 module _ {M : Type 1} (𝓤 : URA M) (H : Heap 𝓤) (A : Atoms 𝓤) (W : Given 𝓤 H A) (mem : Memory → SProp 𝓤) (run : Routine → Fun 𝓤) where
   goes : AllGo 𝓤 H A W 6 (f.signature .params) (f.ended .kept) stayed

@@ -90,7 +90,7 @@ module _ {M : Type 1} (𝓤 : URA M) (H : Heap 𝓤) (A : Atoms 𝓤) (W : Given
       (λ joined0 on0 yes0. assigns ! (addr ! (from ! (hop ! (look ! 52 refl) (stop !)))) (from ! (stop !)) (init ! 32 refl (tt, tt)) $ assigns ! (addr ! (from ! (fld ! refl (hop ! (look-in ! 50 (sub ! 0 refl (whole !))) (stop !))))) (from ! (stop !)) (init ! 30 refl (tt, tt)) $ assigns ! (agg ! (and-then ! (load ! (from ! (stop !)) (look ! 30 refl)) (and-then ! (load ! (from ! (fld ! refl (stop !))) (look-in ! 50 (sub ! 1 refl (whole !)))) (no-more !)))) (from ! (stop !)) (init ! 28 refl (tt, (tt, (record { fits = m-room .0 }, tt)))) $ assigns ! (addr ! (from ! (fld ! refl (hop ! (look-in ! 48 (sub ! 0 refl (whole !))) (stop !))))) (from ! (stop !)) (init ! 26 refl (tt, tt)) $ assigns ! (agg ! (and-then ! (load ! (from ! (stop !)) (look ! 26 refl)) (and-then ! (load ! (from ! (fld ! refl (stop !))) (look-in ! 48 (sub ! 1 refl (whole !)))) (no-more !)))) (from ! (stop !)) (init ! 24 refl (tt, (tt, (record { fits = ys-room .0 }, tt)))) $ assigns ! (addr ! (from ! (fld ! refl (hop ! (look-in ! 46 (sub ! 0 refl (whole !))) (stop !))))) (from ! (stop !)) (init ! 22 refl (tt, tt)) $ assigns ! (agg ! (and-then ! (load ! (from ! (stop !)) (look ! 22 refl)) (and-then ! (load ! (from ! (fld ! refl (stop !))) (look-in ! 46 (sub ! 1 refl (whole !)))) (no-more !)))) (from ! (stop !)) (init ! 20 refl (tt, (tt, (record { fits = out-room .0 }, tt)))) $ assigns ! (addr ! (from ! (fld ! refl (hop ! (look-in ! 44 (sub ! 0 refl (whole !))) (stop !))))) (from ! (stop !)) (init ! 18 refl (tt, tt)) $ assigns ! (agg ! (and-then ! (load ! (from ! (stop !)) (look ! 18 refl)) (and-then ! (load ! (from ! (fld ! refl (stop !))) (look-in ! 44 (sub ! 1 refl (whole !)))) (no-more !)))) (from ! (stop !)) (init ! 16 refl (tt, (tt, (record { fits = buf-room .0 }, tt)))) $ assigns ! (addr ! (from ! (fld ! refl (hop ! (look-in ! 42 (sub ! 0 refl (whole !))) (stop !))))) (from ! (stop !)) (init ! 14 refl (tt, tt)) $ assigns ! (agg ! (and-then ! (load ! (from ! (stop !)) (look ! 14 refl)) (and-then ! (load ! (from ! (fld ! refl (stop !))) (look-in ! 42 (sub ! 1 refl (whole !)))) (no-more !)))) (from ! (stop !)) (init ! 12 refl (tt, (tt, (record { fits = ls-room .0 }, tt)))) $
       -- call 1: `run::take_turn`
       move ! (5 ∷ 11 ∷ []) $ lend-ref ! tt Countersᴿ cs-b cs-o cs (λ ν1-0 δ1-0. move ! (7 ∷ 12 ∷ []) $ lend-mut ! tt u8 m-b m-o m-n m refl (λ ν1-1 δ1-1. move ! (9 ∷ 13 ∷ []) $ lend-mut ! tt Blockᴿ ys-b ys-o ys-n ys refl (λ ν1-2 δ1-2. move ! (11 ∷ 14 ∷ []) $ lend-mut ! tt u8 out-b out-o out-n out refl (λ ν1-3 δ1-3. move ! (13 ∷ 15 ∷ []) $ lend-mut ! tt u8 buf-b buf-o buf-n buf refl (λ ν1-4 δ1-4. move ! (15 ∷ 16 ∷ []) $ lend-mut ! tt u8 ls-b ls-o ls-n ls refl (λ ν1-5 δ1-5.
-      let y1 : take-turnᶜ 𝓤 H A mem run .Ghost = ((((ν1-0 ∷ []), ((ν1-1 ∷ []), ((ν1-2 ∷ []), ((ν1-3 ∷ []), ((ν1-4 ∷ []), ((ν1-5 ∷ []), tt)))))), (fullShare, (fullShare, (fullShare, (fullShare, (fullShare, (fullShare, tt)))))), tt, (pointing Countersᴿ cs-b cs-o δ1-0 cs, (lying u8 m-b m-o δ1-1 m, (lying Blockᴿ ys-b ys-o δ1-2 ys, (lying u8 out-b out-o δ1-3 out, (lying u8 buf-b buf-o δ1-4 buf, (lying u8 ls-b ls-o δ1-5 ls, (t, tt))))))), (vptr cs-b cs-o ∷ [], (m-s ∷ [], (ys-s ∷ [], (out-s ∷ [], (buf-s ∷ [], (ls-s ∷ [], ((Turnᴰ .val t) ∷ [], tt)))))))), tt) in move ! (15 ∷ 12 ∷ 9 ∷ 6 ∷ 3 ∷ 0 ∷ 16 ∷ 13 ∷ 10 ∷ 7 ∷ 4 ∷ 1 ∷ []) $ asks ! take-turn.ended (take-turn.clauses 𝓤 H A mem run) y1 12 (held (held (held (held (held (held (of W Turnᴰ t t-is end))))))) refl (so 𝓤 (sym e0 ∙ is-true r0 yes0, asked)) $ calls-at-last ! fm (take-turnᶜ 𝓤 H A mem run) (known .1) y1 (and-then ! (load ! (from ! (stop !)) (look ! 27 refl)) (and-then ! (load ! (from ! (stop !)) (look ! 23 refl)) (and-then ! (load ! (from ! (stop !)) (look ! 19 refl)) (and-then ! (load ! (from ! (stop !)) (look ! 15 refl)) (and-then ! (load ! (from ! (stop !)) (look ! 11 refl)) (and-then ! (load ! (from ! (stop !)) (look ! 7 refl)) (and-then ! (load ! (from ! (stop !)) (look ! 35 refl)) (no-more !)))))))) (λ w1. came-last ! take-turn.ended (take-turn.clauses 𝓤 H A mem run) y1 w1 Turnᴰ 28 refl refl (true ∷ true ∷ true ∷ true ∷ true ∷ true ∷ false ∷ []) (λ r ws. Went (between (lentTo cs m ys) out buf t) (between (lentTo (ws .0) (ws .1 .0) (ws .1 .1 .0)) (ws .1 .1 .1 .0) (ws .1 .1 .1 .1 .0) r)) (λ r ws. id⊢ 𝓤 _) (λ r1 ws1 is1 e1. on0 _ $ move ! (0 ∷ 6 ∷ 17 ∷ []) $ back-ref ! tt Countersᴿ cs-b cs-o cs (ws1 .0) $ move ! (2 ∷ 7 ∷ 16 ∷ []) $ back-again ! tt u8 m-b m-o m-n m (ws1 .1 .0) m-room refl (λ l1-1. move ! (4 ∷ 8 ∷ 15 ∷ []) $ back-again ! tt Blockᴿ ys-b ys-o ys-n ys (ws1 .1 .1 .0) ys-room refl (λ l1-2. move ! (6 ∷ 9 ∷ 14 ∷ []) $ back-again ! tt u8 out-b out-o out-n out (ws1 .1 .1 .1 .0) out-room refl (λ l1-3. move ! (8 ∷ 10 ∷ 13 ∷ []) $ back-again ! tt u8 buf-b buf-o buf-n buf (ws1 .1 .1 .1 .1 .0) buf-room refl (λ l1-4. move ! (10 ∷ 11 ∷ 12 ∷ []) $ back-again ! tt u8 ls-b ls-o ls-n ls (ws1 .1 .1 .1 .1 .1 .0) ls-room refl (λ l1-5. assigns ! (of-opd ! (load ! (from ! (stop !)) (look ! 34 refl))) (from ! (stop !)) (init ! 54 refl (fits W Turnᴰ r1 is1 .0)) $
+      let y1 : take-turnᶜ 𝓤 H A mem run .Ghost = ((((ν1-0 ∷ []), ((ν1-1 ∷ []), ((ν1-2 ∷ []), ((ν1-3 ∷ []), ((ν1-4 ∷ []), ((ν1-5 ∷ []), tt)))))), (fullShare, (fullShare, (fullShare, (fullShare, (fullShare, (fullShare, tt)))))), tt, (pointing Countersᴿ cs-b cs-o δ1-0 cs, (lying u8 m-b m-o δ1-1 m, (lying Blockᴿ ys-b ys-o δ1-2 ys, (lying u8 out-b out-o δ1-3 out, (lying u8 buf-b buf-o δ1-4 buf, (lying u8 ls-b ls-o δ1-5 ls, (t, tt))))))), (vptr cs-b cs-o ∷ [], (m-s ∷ [], (ys-s ∷ [], (out-s ∷ [], (buf-s ∷ [], (ls-s ∷ [], ((Turnᴰ .val t) ∷ [], tt)))))))), tt) in move ! (15 ∷ 12 ∷ 9 ∷ 6 ∷ 3 ∷ 0 ∷ 16 ∷ 13 ∷ 10 ∷ 7 ∷ 4 ∷ 1 ∷ []) $ asks ! take-turn.ended (take-turn.clauses 𝓤 H A mem run) y1 12 (held (held (held (held (held (held (of W Turnᴰ t t-is end))))))) refl (so 𝓤 (sym e0 ∙ is-true r0 yes0, asked)) $ calls-at-last ! fm (take-turnᶜ 𝓤 H A mem run) (known .1) y1 (and-then ! (load ! (from ! (stop !)) (look ! 27 refl)) (and-then ! (load ! (from ! (stop !)) (look ! 23 refl)) (and-then ! (load ! (from ! (stop !)) (look ! 19 refl)) (and-then ! (load ! (from ! (stop !)) (look ! 15 refl)) (and-then ! (load ! (from ! (stop !)) (look ! 11 refl)) (and-then ! (load ! (from ! (stop !)) (look ! 7 refl)) (and-then ! (load ! (from ! (stop !)) (look ! 35 refl)) (no-more !)))))))) (λ w1. came-last ! take-turn.ended (take-turn.clauses 𝓤 H A mem run) y1 w1 Turnᴰ 28 refl refl (true ∷ true ∷ true ∷ true ∷ true ∷ true ∷ false ∷ []) (λ r ws. Went (between (lentTo cs m ys) out buf ls t) (between (lentTo (ws .0) (ws .1 .0) (ws .1 .1 .0)) (ws .1 .1 .1 .0) (ws .1 .1 .1 .1 .0) (ws .1 .1 .1 .1 .1 .0) r)) (λ r ws. id⊢ 𝓤 _) (λ r1 ws1 is1 e1. on0 _ $ move ! (0 ∷ 6 ∷ 17 ∷ []) $ back-ref ! tt Countersᴿ cs-b cs-o cs (ws1 .0) $ move ! (2 ∷ 7 ∷ 16 ∷ []) $ back-again ! tt u8 m-b m-o m-n m (ws1 .1 .0) m-room refl (λ l1-1. move ! (4 ∷ 8 ∷ 15 ∷ []) $ back-again ! tt Blockᴿ ys-b ys-o ys-n ys (ws1 .1 .1 .0) ys-room refl (λ l1-2. move ! (6 ∷ 9 ∷ 14 ∷ []) $ back-again ! tt u8 out-b out-o out-n out (ws1 .1 .1 .1 .0) out-room refl (λ l1-3. move ! (8 ∷ 10 ∷ 13 ∷ []) $ back-again ! tt u8 buf-b buf-o buf-n buf (ws1 .1 .1 .1 .1 .0) buf-room refl (λ l1-4. move ! (10 ∷ 11 ∷ 12 ∷ []) $ back-again ! tt u8 ls-b ls-o ls-n ls (ws1 .1 .1 .1 .1 .1 .0) ls-room refl (λ l1-5. assigns ! (of-opd ! (load ! (from ! (stop !)) (look ! 34 refl))) (from ! (stop !)) (init ! 54 refl (fits W Turnᴰ r1 is1 .0)) $
       -- the exit
       returns ! (look ! 54 refl) $ leave ! 12 (full _ ∷ full _ ∷ full _ ∷ full _ ∷ full _ ∷ full _ ∷ full _ ∷ full _ ∷ full _ ∷ full _ ∷ full _ ∷ full _ ∷ full _ ∷ full _ ∷ full _ ∷ full _ ∷ full _ ∷ full _ ∷ full _ ∷ full _ ∷ full _ ∷ full _ ∷ []) refl $ keep ! (11 ∷ 9 ∷ 7 ∷ 5 ∷ 3 ∷ 1 ∷ 10 ∷ 8 ∷ 6 ∷ 4 ∷ 2 ∷ 0 ∷ []) $ ends W f.ended stayed (f.clauses 𝓤 H A mem run) y (Turnᴰ .val r1) r1 ((ws1 .0), ((ws1 .1 .0), ((ws1 .1 .1 .0), ((ws1 .1 .1 .1 .0), ((ws1 .1 .1 .1 .1 .0), ((ws1 .1 .1 .1 .1 .1 .0), (tt, tt))))))) (tt, (l1-1, (l1-2, (l1-3, (l1-4, (l1-5, (tt, tt))))))) (Turnᴰ .makes 𝓤 H A W r1 _ is1) (so 𝓤 (turned-on (sym e0 ∙ is-true r0 yes0) e1)) (held (held (held (held (held (held (made (id⊢ 𝓤 _) end)))))))))))))))))))))
       (λ joined0 on0 no0. assigns-last ! (of-opd ! (load ! (from ! (stop !)) (look ! 40 refl))) (from ! (stop !)) (init ! 34 refl (fits W Turnᴰ t t-is .0)) $ on0 _ $ assigns ! (of-opd ! (load ! (from ! (stop !)) (look ! 34 refl))) (from ! (stop !)) (init ! 54 refl (fits W Turnᴰ t t-is .0)) $

@@ -137,9 +137,9 @@ module _ {M : Type 1} (𝓤 : URA M) (H : Heap 𝓤) (A : Atoms 𝓤) (W : Given
       let y5 : first-turnᶜ 𝓤 H A mem run .Ghost = ((tt, tt, tt, (r3, tt), ((Placeᴰ .val r3) ∷ [], tt)), tt) in asks ! first-turn.ended (first-turn.clauses 𝓤 H A mem run) y5 0 (of W Placeᴰ r3 is3 end) refl (id⊢ 𝓤 _) $ calls-at ! fm (first-turnᶜ 𝓤 H A mem run) (known .1 .1 .1 .1 .1 .0) y5 (and-then ! (load ! (from ! (stop !)) (look ! 62 refl)) (no-more !)) (λ w5. came ! first-turn.ended (first-turn.clauses 𝓤 H A mem run) y5 w5 Turnᴰ 59 refl refl ([]) (λ r ws. r ≡ record { have = 0; ended = false; next = r3 .next }) (λ r ws. id⊢ 𝓤 _) (λ r5 ws5 is5 e5. assigns ! (addr ! (from ! (stop !))) (from ! (stop !)) (init ! 31 refl (tt, tt)) $ assigns ! (addr ! (from ! (fld ! refl (hop ! (look-in ! 76 (sub ! 0 refl (whole !))) (stop !))))) (from ! (stop !)) (init ! 29 refl (tt, tt)) $ assigns ! (agg ! (and-then ! (load ! (from ! (stop !)) (look ! 29 refl)) (and-then ! (load ! (from ! (fld ! refl (stop !))) (look-in ! 76 (sub ! 1 refl (whole !)))) (no-more !)))) (from ! (stop !)) (init ! 27 refl (tt, (tt, (record { fits = m-room .0 }, tt)))) $ assigns ! (addr ! (from ! (fld ! refl (hop ! (look-in ! 74 (sub ! 0 refl (whole !))) (stop !))))) (from ! (stop !)) (init ! 25 refl (tt, tt)) $ assigns ! (agg ! (and-then ! (load ! (from ! (stop !)) (look ! 25 refl)) (and-then ! (load ! (from ! (fld ! refl (stop !))) (look-in ! 74 (sub ! 1 refl (whole !)))) (no-more !)))) (from ! (stop !)) (init ! 23 refl (tt, (tt, (record { fits = ys-room .0 }, tt)))) $ assigns ! (addr ! (from ! (fld ! refl (hop ! (look-in ! 72 (sub ! 0 refl (whole !))) (stop !))))) (from ! (stop !)) (init ! 21 refl (tt, tt)) $ assigns ! (agg ! (and-then ! (load ! (from ! (stop !)) (look ! 21 refl)) (and-then ! (load ! (from ! (fld ! refl (stop !))) (look-in ! 72 (sub ! 1 refl (whole !)))) (no-more !)))) (from ! (stop !)) (init ! 19 refl (tt, (tt, (record { fits = out-room .0 }, tt)))) $ assigns ! (addr ! (from ! (fld ! refl (hop ! (look-in ! 70 (sub ! 0 refl (whole !))) (stop !))))) (from ! (stop !)) (init ! 17 refl (tt, tt)) $ assigns ! (agg ! (and-then ! (load ! (from ! (stop !)) (look ! 17 refl)) (and-then ! (load ! (from ! (fld ! refl (stop !))) (look-in ! 70 (sub ! 1 refl (whole !)))) (no-more !)))) (from ! (stop !)) (init ! 15 refl (tt, (tt, (record { fits = buf-room .0 }, tt)))) $ assigns ! (addr ! (from ! (fld ! refl (hop ! (look-in ! 68 (sub ! 0 refl (whole !))) (stop !))))) (from ! (stop !)) (init ! 13 refl (tt, tt)) $ assigns ! (agg ! (and-then ! (load ! (from ! (stop !)) (look ! 13 refl)) (and-then ! (load ! (from ! (fld ! refl (stop !))) (look-in ! 68 (sub ! 1 refl (whole !)))) (no-more !)))) (from ! (stop !)) (init ! 11 refl (tt, (tt, (record { fits = ls-room .0 }, tt)))) $
       -- call 6: `run::run_turns`
       move ! (6 ∷ []) $ lend-local ! tt Countersᴿ Countersᴰ refl (ws2 .0) b2-0 l₇ (λ ν6-0 δ6-0. move ! (7 ∷ 8 ∷ []) $ lend-mut ! tt u8 m-b m-o m-n (ws2 .1 .0) l2-1 (λ ν6-1 δ6-1. move ! (8 ∷ 9 ∷ []) $ lend-mut ! tt Blockᴿ ys-b ys-o ys-n ys refl (λ ν6-2 δ6-2. move ! (13 ∷ 14 ∷ []) $ lend-mut ! tt u8 out-b out-o out-n out refl (λ ν6-3 δ6-3. move ! (14 ∷ 15 ∷ []) $ lend-mut ! tt u8 buf-b buf-o buf-n (ws0 .0) l0-0 (λ ν6-4 δ6-4. move ! (15 ∷ 16 ∷ []) $ lend-mut ! tt u8 ls-b ls-o ls-n (ws3 .0) l3-0 (λ ν6-5 δ6-5.
-      let y6 : run-turnsᶜ 𝓤 H A mem run .Ghost = ((((ν6-0 ∷ []), ((ν6-1 ∷ []), ((ν6-2 ∷ []), ((ν6-3 ∷ []), ((ν6-4 ∷ []), ((ν6-5 ∷ []), tt)))))), (fullShare, (fullShare, (fullShare, (fullShare, (fullShare, (fullShare, tt)))))), tt, (pointing Countersᴿ l₇ zero δ6-0 (ws2 .0), (lying u8 m-b m-o δ6-1 (ws2 .1 .0), (lying Blockᴿ ys-b ys-o δ6-2 ys, (lying u8 out-b out-o δ6-3 out, (lying u8 buf-b buf-o δ6-4 (ws0 .0), (lying u8 ls-b ls-o δ6-5 (ws3 .0), (62, (r5, tt)))))))), (vptr l₇ zero ∷ [], (m-s ∷ [], (ys-s ∷ [], (out-s ∷ [], (buf-s ∷ [], (ls-s ∷ [], ((word .val 62) ∷ [], ((Turnᴰ .val r5) ∷ [], tt))))))))), tt) in move ! (15 ∷ 12 ∷ 9 ∷ 6 ∷ 3 ∷ 0 ∷ 16 ∷ 13 ∷ 10 ∷ 7 ∷ 4 ∷ 1 ∷ []) $ asks ! run-turns.ended (run-turns.clauses 𝓤 H A mem run) y6 12 (held (held (held (held (held (held (of W word 62 (refl, lit< tt) (of W Turnᴰ r5 is5 end)))))))) refl (so 𝓤 (subst (λ (n : ℕ). lineLength ≤ n) (sym l3-0) asked)) $ calls-at ! fm (run-turnsᶜ 𝓤 H A mem run) (known .1 .1 .1 .1 .1 .1) y6 (and-then ! (load ! (from ! (stop !)) (look ! 27 refl)) (and-then ! (load ! (from ! (stop !)) (look ! 23 refl)) (and-then ! (load ! (from ! (stop !)) (look ! 19 refl)) (and-then ! (load ! (from ! (stop !)) (look ! 15 refl)) (and-then ! (load ! (from ! (stop !)) (look ! 11 refl)) (and-then ! (load ! (from ! (stop !)) (look ! 7 refl)) (and-then ! (lit ! tt) (and-then ! (load ! (from ! (stop !)) (look ! 55 refl)) (no-more !))))))))) (λ w6. came ! run-turns.ended (run-turns.clauses 𝓤 H A mem run) y6 w6 Turnᴰ 73 refl refl (true ∷ true ∷ true ∷ true ∷ true ∷ true ∷ false ∷ false ∷ []) (λ r ws. Turns (2 ^ 62 - 1) (between (lentTo (ws2 .0) (ws2 .1 .0) ys) out (ws0 .0) r5) (between (lentTo (ws .0) (ws .1 .0) (ws .1 .1 .0)) (ws .1 .1 .1 .0) (ws .1 .1 .1 .1 .0) r)) (λ r ws. id⊢ 𝓤 _) (λ r6 ws6 is6 e6. move ! (0 ∷ 6 ∷ 17 ∷ []) $ back-local ! tt Countersᴿ Countersᴰ refl (ws6 .0) l₇ (λ b6-0. move ! (1 ∷ 6 ∷ 15 ∷ []) $ back-again ! tt u8 m-b m-o m-n (ws2 .1 .0) (ws6 .1 .0) m-room l2-1 (λ l6-1. move ! (3 ∷ 7 ∷ 14 ∷ []) $ back-again ! tt Blockᴿ ys-b ys-o ys-n ys (ws6 .1 .1 .0) ys-room refl (λ l6-2. move ! (5 ∷ 8 ∷ 13 ∷ []) $ back-again ! tt u8 out-b out-o out-n out (ws6 .1 .1 .1 .0) out-room refl (λ l6-3. move ! (7 ∷ 9 ∷ 12 ∷ []) $ back-again ! tt u8 buf-b buf-o buf-n (ws0 .0) (ws6 .1 .1 .1 .1 .0) buf-room l0-0 (λ l6-4. move ! (9 ∷ 10 ∷ 11 ∷ []) $ back-again ! tt u8 ls-b ls-o ls-n (ws3 .0) (ws6 .1 .1 .1 .1 .1 .0) ls-room l3-0 (λ l6-5.
+      let y6 : run-turnsᶜ 𝓤 H A mem run .Ghost = ((((ν6-0 ∷ []), ((ν6-1 ∷ []), ((ν6-2 ∷ []), ((ν6-3 ∷ []), ((ν6-4 ∷ []), ((ν6-5 ∷ []), tt)))))), (fullShare, (fullShare, (fullShare, (fullShare, (fullShare, (fullShare, tt)))))), tt, (pointing Countersᴿ l₇ zero δ6-0 (ws2 .0), (lying u8 m-b m-o δ6-1 (ws2 .1 .0), (lying Blockᴿ ys-b ys-o δ6-2 ys, (lying u8 out-b out-o δ6-3 out, (lying u8 buf-b buf-o δ6-4 (ws0 .0), (lying u8 ls-b ls-o δ6-5 (ws3 .0), (62, (r5, tt)))))))), (vptr l₇ zero ∷ [], (m-s ∷ [], (ys-s ∷ [], (out-s ∷ [], (buf-s ∷ [], (ls-s ∷ [], ((word .val 62) ∷ [], ((Turnᴰ .val r5) ∷ [], tt))))))))), tt) in move ! (15 ∷ 12 ∷ 9 ∷ 6 ∷ 3 ∷ 0 ∷ 16 ∷ 13 ∷ 10 ∷ 7 ∷ 4 ∷ 1 ∷ []) $ asks ! run-turns.ended (run-turns.clauses 𝓤 H A mem run) y6 12 (held (held (held (held (held (held (of W word 62 (refl, lit< tt) (of W Turnᴰ r5 is5 end)))))))) refl (so 𝓤 (subst (λ (n : ℕ). lineLength ≤ n) (sym l3-0) asked)) $ calls-at ! fm (run-turnsᶜ 𝓤 H A mem run) (known .1 .1 .1 .1 .1 .1) y6 (and-then ! (load ! (from ! (stop !)) (look ! 27 refl)) (and-then ! (load ! (from ! (stop !)) (look ! 23 refl)) (and-then ! (load ! (from ! (stop !)) (look ! 19 refl)) (and-then ! (load ! (from ! (stop !)) (look ! 15 refl)) (and-then ! (load ! (from ! (stop !)) (look ! 11 refl)) (and-then ! (load ! (from ! (stop !)) (look ! 7 refl)) (and-then ! (lit ! tt) (and-then ! (load ! (from ! (stop !)) (look ! 55 refl)) (no-more !))))))))) (λ w6. came ! run-turns.ended (run-turns.clauses 𝓤 H A mem run) y6 w6 Turnᴰ 73 refl refl (true ∷ true ∷ true ∷ true ∷ true ∷ true ∷ false ∷ false ∷ []) (λ r ws. Turns (2 ^ 62 - 1) (between (lentTo (ws2 .0) (ws2 .1 .0) ys) out (ws0 .0) (ws3 .0) r5) (between (lentTo (ws .0) (ws .1 .0) (ws .1 .1 .0)) (ws .1 .1 .1 .0) (ws .1 .1 .1 .1 .0) (ws .1 .1 .1 .1 .1 .0) r)) (λ r ws. id⊢ 𝓤 _) (λ r6 ws6 is6 e6. move ! (0 ∷ 6 ∷ 17 ∷ []) $ back-local ! tt Countersᴿ Countersᴰ refl (ws6 .0) l₇ (λ b6-0. move ! (1 ∷ 6 ∷ 15 ∷ []) $ back-again ! tt u8 m-b m-o m-n (ws2 .1 .0) (ws6 .1 .0) m-room l2-1 (λ l6-1. move ! (3 ∷ 7 ∷ 14 ∷ []) $ back-again ! tt Blockᴿ ys-b ys-o ys-n ys (ws6 .1 .1 .0) ys-room refl (λ l6-2. move ! (5 ∷ 8 ∷ 13 ∷ []) $ back-again ! tt u8 out-b out-o out-n out (ws6 .1 .1 .1 .0) out-room refl (λ l6-3. move ! (7 ∷ 9 ∷ 12 ∷ []) $ back-again ! tt u8 buf-b buf-o buf-n (ws0 .0) (ws6 .1 .1 .1 .1 .0) buf-room l0-0 (λ l6-4. move ! (9 ∷ 10 ∷ 11 ∷ []) $ back-again ! tt u8 ls-b ls-o ls-n (ws3 .0) (ws6 .1 .1 .1 .1 .1 .0) ls-room l3-0 (λ l6-5.
       -- the exit
-      move ! (0 ∷ 1 ∷ 2 ∷ 3 ∷ 4 ∷ 5 ∷ 6 ∷ 7 ∷ 8 ∷ 9 ∷ 11 ∷ 12 ∷ 13 ∷ 14 ∷ 15 ∷ 16 ∷ 17 ∷ 18 ∷ 19 ∷ 20 ∷ 21 ∷ 22 ∷ 23 ∷ 24 ∷ 25 ∷ 26 ∷ 27 ∷ 28 ∷ 29 ∷ 30 ∷ 31 ∷ 32 ∷ 33 ∷ 34 ∷ 35 ∷ 36 ∷ 37 ∷ 38 ∷ 39 ∷ 40 ∷ 41 ∷ 42 ∷ 43 ∷ 44 ∷ 45 ∷ 46 ∷ 47 ∷ 48 ∷ 49 ∷ 50 ∷ 51 ∷ 52 ∷ 53 ∷ 54 ∷ 55 ∷ 56 ∷ 57 ∷ 58 ∷ 59 ∷ 60 ∷ 61 ∷ 62 ∷ 63 ∷ 64 ∷ 10 ∷ 65 ∷ 66 ∷ 67 ∷ 68 ∷ 69 ∷ 70 ∷ 71 ∷ 72 ∷ 73 ∷ 74 ∷ 75 ∷ 76 ∷ 77 ∷ 78 ∷ 79 ∷ []) $ returns ! (look ! 78 refl) $ leave ! 10 (full _ ∷ full _ ∷ full _ ∷ full _ ∷ full _ ∷ full _ ∷ full _ ∷ full _ ∷ full _ ∷ full _ ∷ full _ ∷ full _ ∷ full _ ∷ full _ ∷ full _ ∷ full _ ∷ full _ ∷ full _ ∷ full _ ∷ full _ ∷ full _ ∷ full _ ∷ full _ ∷ full _ ∷ full _ ∷ full _ ∷ full _ ∷ full _ ∷ full _ ∷ full _ ∷ full _ ∷ full _ ∷ full _ ∷ full _ ∷ full _ ∷ []) refl $ keep ! (9 ∷ 7 ∷ 5 ∷ 3 ∷ 1 ∷ 8 ∷ 6 ∷ 4 ∷ 2 ∷ 0 ∷ []) $ ends W f.ended stayed (f.clauses 𝓤 H A mem run) y (Turnᴰ .val r6) r6 ((ws6 .1 .0), ((ws6 .1 .1 .0), ((ws6 .1 .1 .1 .0), ((ws6 .1 .1 .1 .1 .0), ((ws6 .1 .1 .1 .1 .1 .0), tt))))) (l6-1, (l6-2, (l6-3, (l6-4, (l6-5, tt))))) (Turnᴰ .makes 𝓤 H A W r6 _ is6) (so 𝓤 (program-went m ys out (ws6 .1 .1 .1 .1 .0) e0 e1 e2 (e3 .0) e5 e6)) (held (held (held (held (held end))))))))))))))))))))))))))))))))))))))))))))))))))))))))))))))))))))))))))))
+      move ! (0 ∷ 1 ∷ 2 ∷ 3 ∷ 4 ∷ 5 ∷ 6 ∷ 7 ∷ 8 ∷ 9 ∷ 11 ∷ 12 ∷ 13 ∷ 14 ∷ 15 ∷ 16 ∷ 17 ∷ 18 ∷ 19 ∷ 20 ∷ 21 ∷ 22 ∷ 23 ∷ 24 ∷ 25 ∷ 26 ∷ 27 ∷ 28 ∷ 29 ∷ 30 ∷ 31 ∷ 32 ∷ 33 ∷ 34 ∷ 35 ∷ 36 ∷ 37 ∷ 38 ∷ 39 ∷ 40 ∷ 41 ∷ 42 ∷ 43 ∷ 44 ∷ 45 ∷ 46 ∷ 47 ∷ 48 ∷ 49 ∷ 50 ∷ 51 ∷ 52 ∷ 53 ∷ 54 ∷ 55 ∷ 56 ∷ 57 ∷ 58 ∷ 59 ∷ 60 ∷ 61 ∷ 62 ∷ 63 ∷ 64 ∷ 10 ∷ 65 ∷ 66 ∷ 67 ∷ 68 ∷ 69 ∷ 70 ∷ 71 ∷ 72 ∷ 73 ∷ 74 ∷ 75 ∷ 76 ∷ 77 ∷ 78 ∷ 79 ∷ []) $ returns ! (look ! 78 refl) $ leave ! 10 (full _ ∷ full _ ∷ full _ ∷ full _ ∷ full _ ∷ full _ ∷ full _ ∷ full _ ∷ full _ ∷ full _ ∷ full _ ∷ full _ ∷ full _ ∷ full _ ∷ full _ ∷ full _ ∷ full _ ∷ full _ ∷ full _ ∷ full _ ∷ full _ ∷ full _ ∷ full _ ∷ full _ ∷ full _ ∷ full _ ∷ full _ ∷ full _ ∷ full _ ∷ full _ ∷ full _ ∷ full _ ∷ full _ ∷ full _ ∷ full _ ∷ []) refl $ keep ! (9 ∷ 7 ∷ 5 ∷ 3 ∷ 1 ∷ 8 ∷ 6 ∷ 4 ∷ 2 ∷ 0 ∷ []) $ ends W f.ended stayed (f.clauses 𝓤 H A mem run) y (Turnᴰ .val r6) r6 ((ws6 .1 .0), ((ws6 .1 .1 .0), ((ws6 .1 .1 .1 .0), ((ws6 .1 .1 .1 .1 .0), ((ws6 .1 .1 .1 .1 .1 .0), tt))))) (l6-1, (l6-2, (l6-3, (l6-4, (l6-5, tt))))) (Turnᴰ .makes 𝓤 H A W r6 _ is6) (so 𝓤 (program-went m ys out ls (ws6 .1 .1 .1 .1 .0) e0 e1 e2 e3 e5 e6)) (held (held (held (held (held end))))))))))))))))))))))))))))))))))))))))))))))))))))))))))))))))))))))))))))
 
 module _ {M : Type 1} (𝓤 : URA M) (H : Heap 𝓤) (A : Atoms 𝓤) (W : Given 𝓤 H A) (mem : Memory → SProp 𝓤) (run : Routine → Fun 𝓤) where
   goes : AllGo 𝓤 H A W 5 (f.signature .params) (f.ended .kept) stayed

@@ -80,7 +80,7 @@ module _ {M : Type 1} (𝓤 : URA M) (H : Heap 𝓤) (A : Atoms 𝓤) (W : Given
       let y0 : empty-blockᶜ 𝓤 H A mem run .Ghost = ((tt, tt, tt, tt, tt), tt) in asks ! empty-block.ended (empty-block.clauses 𝓤 H A mem run) y0 0 end refl (id⊢ 𝓤 _) $ calls-at ! fm (empty-blockᶜ 𝓤 H A mem run) (known .0) y0 (no-more !) (λ w0. came ! empty-block.ended (empty-block.clauses 𝓤 H A mem run) y0 w0 Blockᴰ 30 refl refl ([]) (λ r ws. r ≡ emptyBlock) (λ r ws. id⊢ 𝓤 _) (λ r0 ws0 is0 e0. assigns ! (rep ! 128 (load ! (from ! (stop !)) (look ! 30 refl))) (from ! (stop !)) (init ! 28 refl (array-lawful 𝓤 H A W Blockᴿ (Blockᴰ .lawful 𝓤 H A W) 128 .typed (replicate 128 r0) ((arrayVal (replicate 128 (Blockᴰ .val r0))) ∷ []) (repeated Blockᴿ r0 (Blockᴰ .val r0) is0 128) .0)) $ assigns ! (addr ! (from ! (fld ! refl (hop ! (look-in ! 38 (sub ! 0 refl (whole !))) (stop !))))) (from ! (stop !)) (init ! 26 refl (tt, tt)) $ assigns ! (agg ! (and-then ! (load ! (from ! (stop !)) (look ! 26 refl)) (and-then ! (load ! (from ! (fld ! refl (stop !))) (look-in ! 38 (sub ! 1 refl (whole !)))) (no-more !)))) (from ! (stop !)) (init ! 24 refl (tt, (tt, (record { fits = m-room .0 }, tt)))) $ assigns ! (addr ! (from ! (stop !))) (from ! (stop !)) (init ! 22 refl (tt, tt)) $ assigns ! (agg ! (and-then ! (load ! (from ! (stop !)) (look ! 22 refl)) (and-then ! (lit ! tt) (no-more !)))) (from ! (stop !)) (init ! 20 refl (tt, (tt, (record { fits = lit< tt }, tt)))) $ assigns ! (addr ! (from ! (fld ! refl (hop ! (look-in ! 36 (sub ! 0 refl (whole !))) (stop !))))) (from ! (stop !)) (init ! 18 refl (tt, tt)) $ assigns ! (agg ! (and-then ! (load ! (from ! (stop !)) (look ! 18 refl)) (and-then ! (load ! (from ! (fld ! refl (stop !))) (look-in ! 36 (sub ! 1 refl (whole !)))) (no-more !)))) (from ! (stop !)) (init ! 16 refl (tt, (tt, (record { fits = out-room .0 }, tt)))) $ assigns ! (addr ! (from ! (fld ! refl (hop ! (look-in ! 34 (sub ! 0 refl (whole !))) (stop !))))) (from ! (stop !)) (init ! 14 refl (tt, tt)) $ assigns ! (agg ! (and-then ! (load ! (from ! (stop !)) (look ! 14 refl)) (and-then ! (load ! (from ! (fld ! refl (stop !))) (look-in ! 34 (sub ! 1 refl (whole !)))) (no-more !)))) (from ! (stop !)) (init ! 12 refl (tt, (tt, (record { fits = buf-room .0 }, tt)))) $ assigns ! (addr ! (from ! (fld ! refl (hop ! (look-in ! 32 (sub ! 0 refl (whole !))) (stop !))))) (from ! (stop !)) (init ! 10 refl (tt, tt)) $ assigns ! (agg ! (and-then ! (load ! (from ! (stop !)) (look ! 10 refl)) (and-then ! (load ! (from ! (fld ! refl (stop !))) (look-in ! 32 (sub ! 1 refl (whole !)))) (no-more !)))) (from ! (stop !)) (init ! 8 refl (tt, (tt, (record { fits = ls-room .0 }, tt)))) $
       -- call 1: `run::with_counters`
       move ! (3 ∷ 7 ∷ []) $ lend-mut ! tt u8 m-b m-o m-n m refl (λ ν1-0 δ1-0. move ! (29 ∷ []) $ lend-array ! tt Blockᴿ (Blockᴰ .makes 𝓤 H A W) tt 128 (replicate 128 r0) (arrayVal (replicate 128 (Blockᴰ .val r0))) (repeated Blockᴿ r0 (Blockᴰ .val r0) is0 128) (lit< tt, lit< tt) (length-replicate 128 r0) l₆ (λ ν1-1 δ1-1. move ! (8 ∷ 11 ∷ []) $ lend-mut ! tt u8 out-b out-o out-n out refl (λ ν1-2 δ1-2. move ! (10 ∷ 12 ∷ []) $ lend-mut ! tt u8 buf-b buf-o buf-n buf refl (λ ν1-3 δ1-3. move ! (12 ∷ 13 ∷ []) $ lend-mut ! tt u8 ls-b ls-o ls-n ls refl (λ ν1-4 δ1-4.
-      let y1 : with-countersᶜ 𝓤 H A mem run .Ghost = ((((ν1-0 ∷ []), ((ν1-1 ∷ []), ((ν1-2 ∷ []), ((ν1-3 ∷ []), ((ν1-4 ∷ []), tt))))), (fullShare, (fullShare, (fullShare, (fullShare, (fullShare, tt))))), tt, (lying u8 m-b m-o δ1-0 m, (lying Blockᴿ l₆ zero δ1-1 (replicate 128 r0), (lying u8 out-b out-o δ1-2 out, (lying u8 buf-b buf-o δ1-3 buf, (lying u8 ls-b ls-o δ1-4 ls, tt))))), (m-s ∷ [], ((sliceVal (l₆, zero) 128) ∷ [], (out-s ∷ [], (buf-s ∷ [], (ls-s ∷ [], tt)))))), tt) in move ! (12 ∷ 9 ∷ 6 ∷ 3 ∷ 0 ∷ 13 ∷ 10 ∷ 7 ∷ 4 ∷ 1 ∷ []) $ asks ! with-counters.ended (with-counters.clauses 𝓤 H A mem run) y1 10 (held (held (held (held (held end))))) refl (so 𝓤 asked) $ calls-at ! fm (with-countersᶜ 𝓤 H A mem run) (known .1) y1 (and-then ! (load ! (from ! (stop !)) (look ! 22 refl)) (and-then ! (load ! (from ! (stop !)) (look ! 18 refl)) (and-then ! (load ! (from ! (stop !)) (look ! 14 refl)) (and-then ! (load ! (from ! (stop !)) (look ! 10 refl)) (and-then ! (load ! (from ! (stop !)) (look ! 6 refl)) (no-more !)))))) (λ w1. came ! with-counters.ended (with-counters.clauses 𝓤 H A mem run) y1 w1 Turnᴰ 36 refl refl (true ∷ true ∷ true ∷ true ∷ true ∷ []) (λ r ws. Program (2 ^ 62 - 1) m (replicate 128 r0) out (ws .0) (ws .1 .0) (ws .1 .1 .0) r) (λ r ws. id⊢ 𝓤 _) (λ r1 ws1 is1 e1. move ! (0 ∷ 5 ∷ 14 ∷ []) $ back-again ! tt u8 m-b m-o m-n m (ws1 .0) m-room refl (λ l1-0. move ! (2 ∷ 6 ∷ 13 ∷ []) $ back-array ! tt Blockᴿ 128 (replicate 128 r0) (ws1 .1 .0) l₆ $ move ! (3 ∷ 6 ∷ 11 ∷ []) $ back-again ! tt u8 out-b out-o out-n out (ws1 .1 .1 .0) out-room refl (λ l1-2. move ! (5 ∷ 7 ∷ 10 ∷ []) $ back-again ! tt u8 buf-b buf-o buf-n buf (ws1 .1 .1 .1 .0) buf-room refl (λ l1-3. move ! (7 ∷ 8 ∷ 9 ∷ []) $ back-again ! tt u8 ls-b ls-o ls-n ls (ws1 .1 .1 .1 .1 .0) ls-room refl (λ l1-4.
+      let y1 : with-countersᶜ 𝓤 H A mem run .Ghost = ((((ν1-0 ∷ []), ((ν1-1 ∷ []), ((ν1-2 ∷ []), ((ν1-3 ∷ []), ((ν1-4 ∷ []), tt))))), (fullShare, (fullShare, (fullShare, (fullShare, (fullShare, tt))))), tt, (lying u8 m-b m-o δ1-0 m, (lying Blockᴿ l₆ zero δ1-1 (replicate 128 r0), (lying u8 out-b out-o δ1-2 out, (lying u8 buf-b buf-o δ1-3 buf, (lying u8 ls-b ls-o δ1-4 ls, tt))))), (m-s ∷ [], ((sliceVal (l₆, zero) 128) ∷ [], (out-s ∷ [], (buf-s ∷ [], (ls-s ∷ [], tt)))))), tt) in move ! (12 ∷ 9 ∷ 6 ∷ 3 ∷ 0 ∷ 13 ∷ 10 ∷ 7 ∷ 4 ∷ 1 ∷ []) $ asks ! with-counters.ended (with-counters.clauses 𝓤 H A mem run) y1 10 (held (held (held (held (held end))))) refl (so 𝓤 asked) $ calls-at ! fm (with-countersᶜ 𝓤 H A mem run) (known .1) y1 (and-then ! (load ! (from ! (stop !)) (look ! 22 refl)) (and-then ! (load ! (from ! (stop !)) (look ! 18 refl)) (and-then ! (load ! (from ! (stop !)) (look ! 14 refl)) (and-then ! (load ! (from ! (stop !)) (look ! 10 refl)) (and-then ! (load ! (from ! (stop !)) (look ! 6 refl)) (no-more !)))))) (λ w1. came ! with-counters.ended (with-counters.clauses 𝓤 H A mem run) y1 w1 Turnᴰ 36 refl refl (true ∷ true ∷ true ∷ true ∷ true ∷ []) (λ r ws. Program (2 ^ 62 - 1) m (replicate 128 r0) out ls (ws .0) (ws .1 .0) (ws .1 .1 .0) (ws .1 .1 .1 .1 .0) r) (λ r ws. id⊢ 𝓤 _) (λ r1 ws1 is1 e1. move ! (0 ∷ 5 ∷ 14 ∷ []) $ back-again ! tt u8 m-b m-o m-n m (ws1 .0) m-room refl (λ l1-0. move ! (2 ∷ 6 ∷ 13 ∷ []) $ back-array ! tt Blockᴿ 128 (replicate 128 r0) (ws1 .1 .0) l₆ $ move ! (3 ∷ 6 ∷ 11 ∷ []) $ back-again ! tt u8 out-b out-o out-n out (ws1 .1 .1 .0) out-room refl (λ l1-2. move ! (5 ∷ 7 ∷ 10 ∷ []) $ back-again ! tt u8 buf-b buf-o buf-n buf (ws1 .1 .1 .1 .0) buf-room refl (λ l1-3. move ! (7 ∷ 8 ∷ 9 ∷ []) $ back-again ! tt u8 ls-b ls-o ls-n ls (ws1 .1 .1 .1 .1 .0) ls-room refl (λ l1-4.
       -- the exit
       move ! (0 ∷ 1 ∷ 2 ∷ 3 ∷ 4 ∷ 5 ∷ 7 ∷ 8 ∷ 9 ∷ 10 ∷ 11 ∷ 12 ∷ 13 ∷ 14 ∷ 15 ∷ 16 ∷ 17 ∷ 18 ∷ 19 ∷ 20 ∷ 21 ∷ 22 ∷ 23 ∷ 24 ∷ 25 ∷ 26 ∷ 27 ∷ 28 ∷ 6 ∷ 29 ∷ 30 ∷ 31 ∷ 32 ∷ 33 ∷ 34 ∷ 35 ∷ 36 ∷ 37 ∷ 38 ∷ 39 ∷ 40 ∷ 41 ∷ []) $ returns ! (look ! 40 refl) $ leave ! 8 (full _ ∷ full _ ∷ full _ ∷ full _ ∷ full _ ∷ full _ ∷ empty ∷ full _ ∷ full _ ∷ full _ ∷ full _ ∷ full _ ∷ full _ ∷ full _ ∷ full _ ∷ full _ ∷ full _ ∷ []) refl $ keep ! (7 ∷ 5 ∷ 3 ∷ 1 ∷ 6 ∷ 4 ∷ 2 ∷ 0 ∷ []) $ ends W f.ended stayed (f.clauses 𝓤 H A mem run) y (Turnᴰ .val r1) r1 ((ws1 .0), ((ws1 .1 .1 .0), ((ws1 .1 .1 .1 .0), ((ws1 .1 .1 .1 .1 .0), tt)))) (l1-0, (l1-2, (l1-3, (l1-4, tt)))) (Turnᴰ .makes 𝓤 H A W r1 _ is1) (so 𝓤 (with-empty-store e0 e1)) (held (held (held (held end))))))))))))))))))))))))))))))))))
 
