@@ -10,7 +10,7 @@
     fn        'crate::f'                     kit       the crate of the shared modules
     params    a name for each parameter. Names of the shared modules (store, some, bytes, word, end, of, full, mem, ..), and y, s, f, C, H, A, W, are taken
     requires  the clause, over {name} (of a slice or a `&mut S`, what it refers to), or left out
-    callees   {'crate::g': {'ens': the clause, over {0}, {1}, .. (the arguments; of a slice its list), r, and {w0}, .. (the last list of argument 0, ..); None where it is not needed, 'req': 'yes' where g has a `requires`}}, f itself among them if it calls itself
+    callees   {'crate::g', or 'crate::module::g': {'ens': the clause, over {0}, {1}, .. (the arguments; of a slice its list), r, and {w0}, .. (the last list of argument 0, ..); None where it is not needed, 'req': 'yes' where g has a `requires`}}, f itself among them if it calls itself
     asks      [proof ..]   of each call whose callee has a `requires`, in order.        fits   [proof ..]  of each sum (that it is below 2 ^ 64) and each difference (that what is taken is at most that from which), in order
     says      [proof ..]   of the `ensures`, at each return, in order; '' where f has none, as 'ens' is '' where g has none
     lets      [[(name, type, proof) ..] ..]   facts, in front of the arms: of branch 0 the first and the second, and so on

@@ -108,6 +108,14 @@ fn records(mut input: &[u8]) -> Vec<&[u8]> {
     records
 }
 
+/// The tests below put records at every place against it.
+#[test]
+fn the_buffer_is_as_long_as_the_programs() {
+    let main = std::fs::read_to_string(concat!(env!("CARGO_MANIFEST_DIR"), "/../../crates/run/src/main.rt"))
+        .expect("a source");
+    assert!(main.contains(&format!("const INPUT_LENGTH: usize = {BUFFER};")));
+}
+
 // ---------------------------------------------------------------- what the records are
 
 /// A short run cut at every byte, and the others in every record: in its header, behind it, and before its last byte.
