@@ -9,7 +9,7 @@ Written by `cargo run --offline -p stories -- runs` from the folder above; a tes
 cluster of six, (f, c, k) = (1, 1, 0): one replica may lie, one may stop.
 
 `NAME.bin` is an input for 01's run program and `NAME.txt` is exactly what the program prints for it. Tests compare the oracle's
-program with them, and the proved program too.
+program with them, and the proved program too, which they also run on these inputs cut, damaged and in portions.
 
 | run | own number | calls | what it shows |
 |---|---|---|---|
