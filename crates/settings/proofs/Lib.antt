@@ -1,2 +1,3 @@
 pub mod Quorums
 pub mod Openings
+pub mod Leaders

@@ -1,8 +1,9 @@
--- Which five numbers an opening takes (01: Settings and thresholds; Refusals, place "opening"). Assumes nothing.
-use Prim.Native.Nat.{ℕ, _+_, _*_, _%_}
-use mathlib.Core.Bool.{Bool, not, cond}
+-- Which five numbers and which leader list an opening takes (01: Settings and thresholds; Refusals, place "opening"; 02: 2.1). Assumes nothing.
+use Prim.Native.Nat.{ℕ, zero, suc, _+_, _*_, _%_}
+use mathlib.Core.Bool.{Bool, false, not, cond, _||_}
 use mathlib.Core.List.{List, [], _∷_}
 use lib.Dec.{eqb, ltb, leb}
+use lib.ListN.{length}
 use Rattle.settings.specs.declared.Settings.{Settings}
 use Rattle.settings.specs.declared.Admission.{Admission}
 use Rattle.settings.specs.declared.Admission.the-variants.{Admitted, Refused}
@@ -29,3 +30,27 @@ opening f c k n own = let s : Settings = record { f = f; c = c; k = k } in judge
 unfoldable pub admission : Admission → Answer Settings
 admission (Admitted s) = accepts s
 admission Refused = refuses 1
+
+-- ---- 02, 2.1: "The opening takes a list of 1 to 64 box numbers"
+abbrev pub mostLeaders : ℕ
+mostLeaders = 64
+
+-- "An entry of n or more": one of the list at least
+unfoldable pub hasFrom : ℕ → List ℕ → Bool
+hasFrom n [] = false
+hasFrom n (i ∷ leaders) = leb n i || hasFrom n leaders
+
+-- "An entry of n or more, or an empty or longer list, is refused by 1."
+unfoldable pub badLeaders : ℕ → List ℕ → Bool
+badLeaders n leaders = hasFrom n leaders || (eqb (length leaders) 0 || ltb mostLeaders (length leaders))
+
+unfoldable pub leaderRules : ℕ → List ℕ → List Rule
+leaderRules n leaders = badLeaders n leaders ⇒ 1 ∷ []
+
+-- "the list 0 to n−1": k numbers from i on, and all of n
+unfoldable pub numbersFrom : ℕ → ℕ → List ℕ
+numbersFrom i zero = []
+numbersFrom i (suc k) = i ∷ numbersFrom (suc i) k
+
+abbrev pub inTurn : ℕ → List ℕ
+inTurn n = numbersFrom 0 n

@@ -1,9 +1,9 @@
-// The settings of a cluster: how many replicas it has, its five quorums, and the test that opening makes of them.
-// Promises: each function returns what 01's formula says, for every input; no sum wraps and no call is refused by a `requires`.
+// The settings of a cluster: how many replicas it has, its five quorums, and the tests that opening makes of them and of the leader list.
+// Promises: each function returns what 01's formula or 02's rule says, for every input; no sum wraps and no call is refused by a `requires`.
 // Rests on nothing but the language's library.
 ghost use mathlib.Core.Path.{_≡_};
 ghost use Rattle.settings.specs.Quorum.{replicas, slack, blockQuorum, weakQuorum, timeoutQuorum, slowQuorum, fastQuorum};
-ghost use Rattle.settings.specs.Opening.{admission, opening};
+ghost use Rattle.settings.specs.Opening.{admission, opening, hasFrom, badLeaders};
 
 // A view number. Views and heights are types of their own, so that no code compares or adds one to the other.
 #[repr(C)]
@@ -116,4 +116,34 @@ pub fn admit(f: u64, c: u64, k: u64, n: u64, own: u64) -> Admission
         return Admission::Refused;
     }
     Admission::Admitted(settings)
+}
+
+// A leader list has at most so many entries.
+pub const MOST_LEADERS: usize = 64;
+
+// An entry of the list is no replica of a cluster of n.
+fn has_from(n: u64, leaders: &[u8]) -> bool
+    ensures { λ r. ⌜ r ≡ hasFrom n (now (leaders .entry)) ⌝ }
+{
+    let mut i = 0;
+    while i < leaders.len() {
+        if n <= leaders[i] as u64 {
+            return true;
+        }
+        i += 1;
+    }
+    false
+}
+
+// A leader list that opening refuses. The lengths are asked first: so no more than 64 entries are ever looked at.
+pub fn bad_leaders(n: u64, leaders: &[u8]) -> bool
+    ensures { λ r. ⌜ r ≡ badLeaders n (now (leaders .entry)) ⌝ }
+{
+    if leaders.len() == 0 {
+        return true;
+    }
+    if MOST_LEADERS < leaders.len() {
+        return true;
+    }
+    has_from(n, leaders)
 }
