@@ -4,13 +4,15 @@ use mathlib.Core.Logic.{inl}
 use mathlib.Core.List.{List}
 use Prim.Native.Nat.{ℕ, _+_, _^_, _≤_, _<_}
 use native.Mathlib.Omega.{arith}
-use lib.ListN.{length}
+use lib.ListN.{length, take, drop}
+use lib.Seq.{take-take}
 use Rattle.settings.specs.Quorum.{largest}
+use Rattle.settings.specs.Opening.{mostLeaders}
 use Rattle.codec.specs.Bytes.{IsBytes, part, patch, leNat, leBytes}
 use Rattle.codec.proofs.Laws.{part-same, part-before, part-behind, length-patch, bytes-patch}
 use Rattle.codec.proofs.Le.{leNat-leBytes, length-leBytes}
 use Rattle.wire.specs.Fields.{numberAt}
-use Rattle.memory.specs.Layout.{entryRoom, entryPlace, votesPlace, memoryLength, settingsOf, ownOf, blockCountOf, entryLengthOf, entryOf, withBlockCount, withEntry}
+use Rattle.memory.specs.Layout.{entryRoom, leadersPlace, entryPlace, votesPlace, memoryLength, settingsOf, ownOf, blockCountOf, entryLengthOf, leaderCountOf, leadersOf, entryOf, withBlockCount, withEntry, withLeaders}
 use Rattle.memory.specs.Kept.{keep, cleared}
 use Rattle.memory.proofs.Apart.{Table, rowOf, widthOf, row-head}
 use Rattle.memory.proofs.Keeping.{keep-apart, bytes-le}
@@ -44,12 +46,28 @@ module _ (m w : List ℕ) (end : ℕ) (same : SameBelow end m w) where
   unfolding entryOf
   entry-same h l = rw (entry-length-same h) (same entryPlace (entryLengthOf m) l)
 
+-- ---- the leader list goes by its own bytes alone
+pub record SameLeaders (m w : List ℕ) : Type 0 where
+  pub count : leaderCountOf w ≡ leaderCountOf m
+  pub list : leadersOf w ≡ leadersOf m
+
+leaders-by : (m w : List ℕ) → part w 12 2 ≡ part m 12 2 → part w leadersPlace mostLeaders ≡ part m leadersPlace mostLeaders → SameLeaders m w
+unfolding leadersOf leaderCountOf
+leaders-by m w a b = record { count = ap leNat a; list = rw (a, b) }
+
+pub leaders-refl : (m : List ℕ) → SameLeaders m m
+leaders-refl m = record { count = refl; list = refl }
+
+pub leaders-trans : (m w s : List ℕ) → SameLeaders m w → SameLeaders w s → SameLeaders m s
+leaders-trans m w s a b = record { count = b .count ∙ a .count; list = b .list ∙ a .list }
+
 -- ---- all fields are the same; the entry certificate, if its length is one that can be
 pub record SameHeader (m w : List ℕ) : Type 0 where
   pub settings : settingsOf w ≡ settingsOf m
   pub own : ownOf w ≡ ownOf m
   pub blockCount : blockCountOf w ≡ blockCountOf m
   pub entryLength : entryLengthOf w ≡ entryLengthOf m
+  pub leaders : SameLeaders m w
   pub entry : entryLengthOf m ≤ entryRoom → entryOf w ≡ entryOf m
 
 pub same-header : (m w : List ℕ) → SameBelow votesPlace m w → SameHeader m w
@@ -59,6 +77,7 @@ same-header m w s =
       own = own-same m w votesPlace s (omega arith);
       blockCount = block-count-same m w votesPlace s (omega arith);
       entryLength = entry-length-same m w votesPlace s (omega arith);
+      leaders = leaders-by m w (s 12 2 (omega arith)) (s leadersPlace mostLeaders (omega arith));
       entry = λ l. entry-same m w votesPlace s (omega arith) (omega arith);
     }
 
@@ -97,6 +116,9 @@ module _ (m : List ℕ) (k : ℕ) where
   pub count-own : ownOf (withBlockCount m k) ≡ ownOf m
   count-own = own-same m (withBlockCount m k) 8 count-before (omega arith)
 
+  pub count-leaders : SameLeaders m (withBlockCount m k)
+  count-leaders = leaders-by m (withBlockCount m k) (count-behind 12 2 (omega arith)) (count-behind leadersPlace mostLeaders (omega arith))
+
   pub count-entry-length : entryLengthOf (withBlockCount m k) ≡ entryLengthOf m
   unfolding entryLengthOf
   count-entry-length = ap leNat (count-behind 10 2 (omega arith))
@@ -113,11 +135,11 @@ module _ (m r : List ℕ) where
 
   pub bytes-with-entry : IsBytes m → IsBytes r → IsBytes (withEntry m r)
   unfolding withEntry
-  bytes-with-entry b c = bytes-patch _ entryPlace r (bytes-patch m 10 (leBytes 2 (length r)) b (bytes-le 2 (length r))) c
+  bytes-with-entry b c = bytes-patch _ _ r (bytes-patch m 10 (leBytes 2 (length r)) b (bytes-le 2 (length r))) c
 
   pub entry-before : SameBelow 10 m (withEntry m r)
   unfolding withEntry
-  entry-before a n h = part-before _ entryPlace r a n (omega arith) ∙ part-before m 10 (leBytes 2 (length r)) a n h
+  entry-before a n h = part-before _ _ r a n (omega arith) ∙ part-before m 10 (leBytes 2 (length r)) a n h
 
   pub entry-settings : settingsOf (withEntry m r) ≡ settingsOf m
   entry-settings = settings-same m (withEntry m r) 10 entry-before (omega arith)
@@ -127,6 +149,14 @@ module _ (m r : List ℕ) where
 
   pub entry-block-count : blockCountOf (withEntry m r) ≡ blockCountOf m
   entry-block-count = block-count-same m (withEntry m r) 10 entry-before (omega arith)
+
+  -- the leader list stands between the length and the certificate
+  entry-between : (a n : ℕ) → 12 ≤ a → a + n ≤ entryPlace → part (withEntry m r) a n ≡ part m a n
+  unfolding withEntry
+  entry-between a n l h = part-before _ _ r a n (omega (arith, h)) ∙ part-behind m 10 (leBytes 2 (length r)) a n (omega (arith, length-leBytes 2 (length r)))
+
+  pub entry-leaders : SameLeaders m (withEntry m r)
+  entry-leaders = leaders-by m (withEntry m r) (entry-between 12 2 (omega arith) (omega arith)) (entry-between leadersPlace mostLeaders (omega arith) (omega arith))
 
   module _ (h : length r ≤ entryRoom) where
     -- the tables
@@ -144,3 +174,35 @@ module _ (m r : List ℕ) where
       pub entry-put : entryOf (withEntry m r) ≡ r
       unfolding entryOf withEntry
       entry-put = rw entry-length-put (part-same (patch m 10 (leBytes 2 (length r))) entryPlace r (length r) refl (simp length-patch (omega arith)))
+
+-- ---- the leader list is put
+module _ (m l : List ℕ) where
+  pub length-with-leaders : length (withLeaders m l) ≡ length m
+  unfolding withLeaders
+  length-with-leaders = simp length-patch
+
+  pub bytes-with-leaders : IsBytes m → IsBytes l → IsBytes (withLeaders m l)
+  unfolding withLeaders
+  bytes-with-leaders b c = bytes-patch _ leadersPlace l (bytes-patch m 12 (leBytes 2 (length l)) b (bytes-le 2 (length l))) c
+
+  pub leaders-before : SameBelow 12 m (withLeaders m l)
+  unfolding withLeaders
+  leaders-before a n h = part-before _ leadersPlace l a n (omega arith) ∙ part-before m 12 (leBytes 2 (length l)) a n h
+
+  module _ (h : length l ≤ mostLeaders) (long : entryPlace ≤ length m) where
+    pub leader-count-put : leaderCountOf (withLeaders m l) ≡ length l
+    unfolding leaderCountOf withLeaders
+    leader-count-put =
+        ap leNat (part-before _ leadersPlace l 12 2 (omega arith) ∙ part-same m 12 (leBytes 2 (length l)) 2 (length-leBytes 2 (length l)) (omega arith))
+        ∙ leNat-leBytes 2 (length l) (omega arith)
+
+    list-put : part (withLeaders m l) leadersPlace (length l) ≡ l
+    unfolding withLeaders
+    list-put = part-same (patch m 12 (leBytes 2 (length l))) leadersPlace l (length l) refl (simp length-patch (omega arith))
+
+    -- of the 64 places the first are the list
+    pub leaders-put : leadersOf (withLeaders m l) ≡ l
+    unfolding leadersOf part
+    leaders-put =
+        ap (λ (k : ℕ). take k (take mostLeaders (drop leadersPlace (withLeaders m l)))) leader-count-put
+        ∙ (take-take (length l) mostLeaders (drop leadersPlace (withLeaders m l)) h ∙ list-put)

@@ -7,6 +7,7 @@ pub mod Apart
 pub mod Keeping
 pub mod Clearing
 pub mod Header
+pub mod Leading
 pub mod Entering
 pub mod Counting
 pub mod Choosing

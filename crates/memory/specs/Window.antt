@@ -1,10 +1,9 @@
 -- Which views are kept, and what entering a view drops (01: The box). Assumes nothing.
-use Prim.Native.Nat.{ℕ, zero, suc, _+_, _-_, _%_, min, max}
+use Prim.Native.Nat.{ℕ, zero, suc, _+_, _-_, min, max}
 use mathlib.Core.Bool.{Bool, _&&_}
 use mathlib.Core.List.{List}
 use lib.Dec.{leb}
-use Rattle.settings.specs.declared.Settings.{Settings}
-use Rattle.settings.specs.Quorum.{replicas, lastView}
+use Rattle.settings.specs.Quorum.{lastView}
 use Rattle.codec.specs.Names.{nameLength}
 use Rattle.wire.specs.Fields.{timeoutLength}
 use Rattle.memory.specs.Layout.{ballotRows, timeoutRows, voteRow, commitRow, timeoutRow}
@@ -42,7 +41,3 @@ entered m old new =
     let k = incoming ballotRows old new in
     let j = incoming timeoutRows old new in
     withoutTimeouts (withoutBallots m (new + 4 - k) k) (new + 4 - j) j
-
--- "The leader of view v ≥ 1 is box (v−1) mod n."
-unfoldable pub leaderOf : Settings → ℕ → ℕ
-leaderOf s v = (v - 1) % replicas s

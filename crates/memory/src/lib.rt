@@ -1,22 +1,26 @@
-// The lent memory of a replica: settings, own number, number of held blocks, entry certificate, and what is kept of each view.
-// Promises: each function reads or leaves what its definition in specs/ says; it asks only that the place lies inside the memory.
+// The lent memory of a replica: settings, own number, number of held blocks, leader list, entry certificate, and what is kept of each view.
+// Promises: each function reads or leaves what its definition in specs/ says; it asks only that the place lies inside the memory, and for a leader that the list has an entry.
 // Rests on `settings`, `codec`, `wire` and `certificate`.
 pub mod decided;
 pub mod formed;
 pub mod kept;
+pub mod leaders;
 pub mod window;
 
 use codec::num::put_u16;
 use codec::num::u16_at;
 use codec::put;
+use settings::MOST_LEADERS;
 use settings::Settings;
 ghost use mathlib.Core.Path.{_≡_};
 ghost use Prim.Native.Nat.{_+_, _≤_};
 ghost use lib.ListN.{length};
 ghost use Rattle.memory.specs.Layout.{settingsOf, ownOf, blockCountOf, entryLengthOf, withBlockCount, withEntry, entryPlace};
 
-// Where the entry certificate stands.
-pub const ENTRY_PLACE: usize = 16;
+// Where the leader list stands, and behind it the entry certificate.
+pub const LEADERS_PLACE: usize = 16;
+
+pub const ENTRY_PLACE: usize = LEADERS_PLACE + MOST_LEADERS;
 
 // Votes and commits are kept for so many views, and timeouts for so many.
 pub const BALLOT_ROWS: u64 = 8;

@@ -1,11 +1,10 @@
-// Windows of views, entering a view, and the leader of a view.
+// Windows of views, and entering a view.
 use crate::BALLOT_ROWS;
 use crate::TIMEOUT_ROWS;
 use crate::kept::clear_row;
 use crate::kept::commit_row;
 use crate::kept::timeout_row;
 use crate::kept::vote_row;
-use settings::Settings;
 use settings::View;
 use wire::length;
 ghost use mathlib.Core.Path.{_≡_};
@@ -13,7 +12,7 @@ ghost use Prim.Native.Nat.{_+_, _≤_, _<_, _^_};
 ghost use lib.ListN.{length};
 ghost use Rattle.settings.specs.Quorum.{lastView};
 ghost use Rattle.memory.specs.Layout.{memoryLength};
-ghost use Rattle.memory.specs.Window.{lowest, highest, withoutBallots, withoutTimeouts, incoming, entered, leaderOf};
+ghost use Rattle.memory.specs.Window.{lowest, highest, withoutBallots, withoutTimeouts, incoming, entered};
 
 // A window ends below the last view.
 const LAST_KEPT: u64 = View::LAST.0 - 1;
@@ -82,11 +81,4 @@ pub fn enter(mem: &mut [u8], old: View, new: View)
     let j = incoming(TIMEOUT_ROWS, old, new);
     drop_ballots(mem, View(new.0 + 4 - k), k);
     drop_timeouts(mem, View(new.0 + 4 - j), j);
-}
-
-pub fn leader(settings: Settings, view: View) -> u64
-    requires { ⌜ 0 < view .0 ⌝ }
-    ensures { λ r. ⌜ r ≡ leaderOf settings (view .0) ⌝ }
-{
-    (view.0 - 1) % settings.n()
 }
