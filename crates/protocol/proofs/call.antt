@@ -11,5 +11,6 @@ pub mod Proposals
 pub mod Events
 pub mod OneCall
 pub mod Regions
+pub mod AsBefore
 pub mod Order
 pub mod Whole

@@ -35,9 +35,13 @@ lentStore = replicate storeLength genesis
 unfoldable pub lentOutput : List ℕ
 lentOutput = replicate outputLength 0
 
+-- the leader list: replica 0 stands in it twice, and replicas 1, 2, 4 and 5 not at all
+unfoldable pub leaders : List ℕ
+leaders = 0 ∷ 3 ∷ 0 ∷ []
+
 -- replica i as its opening over them leaves it
 abbrev pub openedAs : ℕ → Replica
-openedAs i = record { counters = opened; memory = openedMemory lentMemory six i; store = lentStore }
+openedAs i = record { counters = opened; memory = openedMemory lentMemory six i leaders; store = lentStore }
 
 -- ---- the records
 -- the block's name: 32 bytes 01 hex

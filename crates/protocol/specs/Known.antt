@@ -2,12 +2,13 @@
 -- proofs/example/Known.antt. Assumes nothing.
 use Prim.Native.Nat.{ℕ, suc, _≤_, _<_}
 use mathlib.Core.Path.{_≡_}
-use mathlib.Core.Bool.{cond}
+use mathlib.Core.Bool.{false, cond}
 use mathlib.Core.List.{List, [], _∷_}
 use lib.Dec.{eqb}
 use lib.ListN.{length}
 use Rattle.settings.specs.declared.Settings.{Settings}
 use Rattle.settings.specs.Answer.{Answer, accepts, refuses}
+use Rattle.settings.specs.Opening.{badLeaders}
 use Rattle.settings.specs.Quorum.{blockQuorum, weakQuorum, timeoutQuorum, slowQuorum, fastQuorum}
 use Rattle.codec.specs.Names.{zeroName}
 use Rattle.wire.specs.declared.Vote.{Vote}
@@ -18,6 +19,7 @@ use Rattle.wire.specs.Encode.{encode}
 use Rattle.certificate.specs.declared.Certificate.{Certificate}
 use Rattle.certificate.specs.Rank.{blockCertificate, weakCertificate}
 use Rattle.memory.specs.Layout.{memoryLength, settingsOf}
+use Rattle.memory.specs.Leaders.{byList}
 use Rattle.protocol.specs.Refusals.{storeLength, outputLength}
 use Rattle.protocol.specs.Events.{safeIn}
 use Rattle.protocol.specs.Calls.{Replica, begin, Outcome, openingCall, recordCall}
@@ -45,7 +47,7 @@ quorumsOrRefused o = accepting (quorums (settingsOf (o .memory))) (o .reply)
 
 -- ---- "timeouts of view 3 from four boxes": what the record of kind 6 is answered, with its safe certificate by the replica's settings
 abbrev pub safeOrRefused : Replica → List ℕ → List ℕ → Answer Certificate
-safeOrRefused r output bytes = accepting (safeIn (begin r) (certificateOf bytes)) (recordCall r output bytes .reply)
+safeOrRefused r output bytes = accepting (safeIn (begin r) (certificateOf bytes)) (recordCall byList r output bytes .reply)
 
 -- kind 3
 abbrev pub carries : ℕ → List ℕ → ℕ → Carried
@@ -65,11 +67,11 @@ pub record OfSix (r : Replica) : Type 0 where
   pub view : r .counters .view .0 ≤ 3
   pub passes : Passes r
 
--- ---- WHAT A LINE SAYS, whatever the replica's state is otherwise
+-- ---- WHAT A LINE SAYS, whatever the replica's state is otherwise; settings, by an own number and a leader list that an opening takes
 unfoldable pub Holds : Case → Type 0
 Holds (settings f c k n a) =
-    (r : Replica) (own : ℕ) → memoryLength ≤ length (r .memory) → storeLength ≤ length (r .store) → own < n
-    → quorumsOrRefused (openingCall r f c k n own) ≡ a
+    (r : Replica) (own : ℕ) (leaders : List ℕ) → memoryLength ≤ length (r .memory) → storeLength ≤ length (r .store) → own < n → badLeaders n leaders ≡ false
+    → quorumsOrRefused (openingCall r f c k n own leaders) ≡ a
 Holds (timeouts high c a) =
     (r : Replica) (output : List ℕ) (sender j : ℕ) → OfSix r → outputLength ≤ length output → sender < 6 → j < length high
     → safeOrRefused r output (encode (certificate sender (byTimeouts 3 (sent c j 0 high)))) ≡ a

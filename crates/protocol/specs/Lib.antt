@@ -6,6 +6,7 @@ pub mod Rules
 pub mod Applies
 pub mod Calls
 pub mod OneCall
+pub mod AsBefore
 pub mod Whole
 pub mod OneChain
 pub mod Example

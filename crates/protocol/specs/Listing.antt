@@ -3,6 +3,7 @@
 use Prim.Native.Nat.{ℕ}
 use mathlib.Core.List.{List, [], _∷_}
 use Rattle.settings.specs.Answer.{Answer, accepts, refuses}
+use Rattle.memory.specs.Leaders.{byList}
 use Rattle.counters.specs.declared.Counters.{Counters}
 use Rattle.protocol.specs.Calls.{Replica, Outcome, timerCall, proposeCall}
 use Rattle.protocol.specs.OneCall.{left}
@@ -37,7 +38,7 @@ linesOf r a b c d =
     let first = timerCall r a 2 in
     let second = timerCall (left first) b 1 in
     let third = timerCall (left second) c 1 in
-    let fourth = proposeCall (left third) d blockName in
+    let fourth = proposeCall byList (left third) d blockName in
     lineAfter 1 first ∷ lineAfter 2 second ∷ lineAfter 3 third ∷ lineAfter 4 fourth ∷ []
 
 abbrev pub printed : List Line

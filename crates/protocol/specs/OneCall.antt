@@ -9,7 +9,8 @@ use lib.ListN.{length, drop}
 use Rattle.settings.specs.Answer.{accepts, refuses, Rule, judge}
 use Rattle.codec.specs.Bytes.{IsBytes}
 use Rattle.wire.specs.Fit.{IsName, IsU64}
-use Rattle.memory.specs.Layout.{settingsOf, ownOf}
+use Rattle.memory.specs.Layout.{settingsOf, ownOf, leadersOf}
+use Rattle.memory.specs.Leaders.{Leading}
 use Rattle.protocol.specs.Typed.{Typed}
 use Rattle.protocol.specs.Refusals.{outputLength, regionRules}
 use Rattle.protocol.specs.Calls.{Replica, begin, Outcome, recordCall, timerCall, proposeCall}
@@ -25,10 +26,11 @@ CallTyped (receive bytes) = IsBytes bytes
 CallTyped (timer v) = IsU64 v
 CallTyped (propose x) = IsName x
 
-abbrev pub callOn : Replica → List ℕ → Call → Outcome
-callOn r output (receive bytes) = recordCall r output bytes
-callOn r output (timer v) = timerCall r output v
-callOn r output (propose x) = proposeCall r output x
+-- by a rule that says who leads a view
+abbrev pub callOn : Leading → Replica → List ℕ → Call → Outcome
+callOn lead r output (receive bytes) = recordCall lead r output bytes
+callOn lead r output (timer v) = timerCall r output v
+callOn lead r output (propose x) = proposeCall lead r output x
 
 abbrev pub ReplicaTyped : Replica → Type 0
 ReplicaTyped r = Typed (begin r)
@@ -38,7 +40,7 @@ abbrev pub left : Outcome → Replica
 left o = record { counters = o .counters; memory = o .memory; store = o .store }
 
 -- ---- THE ORDER OF REFUSALS (01: "Refusals, by place, in this order"): the numbers of each call as 01 asks them, one after another
--- "opening", 1; then "regions", 2
+-- "opening", 1, of the settings, the own number and the leader list; then "regions", 2
 abbrev pub openingOrder : List ℕ
 openingOrder = 1 ∷ 2 ∷ []
 
@@ -80,12 +82,13 @@ pub record Wrote (output : List ℕ) (k : ℕ) (o : Outcome) : Type 0 where
   pub size : length (o .output) ≡ length output
   pub stays : drop k (o .output) ≡ drop k output
 
--- memory and store keep their lengths, settings and own number stay
+-- memory and store keep their lengths; settings, own number and leader list stay
 pub record Same (r s : Replica) : Type 0 where
   pub memory : length (s .memory) ≡ length (r .memory)
   pub store : length (s .store) ≡ length (r .store)
   pub settings : settingsOf (s .memory) ≡ settingsOf (r .memory)
   pub own : ownOf (s .memory) ≡ ownOf (r .memory)
+  pub leaders : leadersOf (s .memory) ≡ leadersOf (r .memory)
 
 -- no rule of the place "regions" applies, whatever output region of the length is lent
 abbrev pub Passes : Replica → Type 0
@@ -99,6 +102,11 @@ pub record Handing : Type 0 where
 abbrev pub HandingTyped : Handing → Type 0
 HandingTyped t = CallTyped (t .call)
 
-unfoldable pub after : Replica → List Handing → Replica
-after r [] = r
-after r (t ∷ ts) = after (left (callOn r (t .output) (t .call))) ts
+unfoldable pub after : Leading → Replica → List Handing → Replica
+after lead r [] = r
+after lead r (t ∷ ts) = after lead (left (callOn lead r (t .output) (t .call))) ts
+
+-- what each of them leaves: its reply, counters, memory, store and the output region, so also the bytes sent and the releases
+unfoldable pub outcomes : Leading → Replica → List Handing → List Outcome
+outcomes lead r [] = []
+outcomes lead r (t ∷ ts) = let o = callOn lead r (t .output) (t .call) in o ∷ outcomes lead (left o) ts

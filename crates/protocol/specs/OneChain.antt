@@ -1,4 +1,4 @@
--- DEMAND 3 (01: A run of the ring): the run, the premises and the claim, each under the sentence of 01 that it states. No proof is here: it is
+-- DEMAND 3 (01: A run of the ring; 02: 2.1): the run, the premises and the claim, each under the sentence of 01 that it states. No proof is here: it is
 -- proofs/chain/Demand3.antt. It speaks of `recordCall`, `timerCall`, `proposeCall` and `openingCall` of Calls.antt, with which the contracts of the calls in code, `replica::hydrangea_*`,
 -- are equations: so what is shown here of these definitions holds of the code. Outside lie the host (docs/INTERFACE.md lists its duties, which are the premises), the signatures and the compiler's back end. Assumes nothing.
 use Prim.Native.Nat.{ℕ, zero, suc, _+_, _≤_, _<_}
@@ -17,6 +17,7 @@ use Rattle.wire.specs.Encode.{voteBytes}
 use Rattle.wire.specs.Content.{Certificate, byBlock, byTimeouts, timeoutOf, Content, vote, commit, certificate, timeout, proposal, block, release, content}
 use Rattle.wire.specs.Fit.{All}
 use Rattle.certificate.specs.Safe.{signs}
+use Rattle.memory.specs.Leaders.{byList}
 use Rattle.safety.specs.Lists.{In}
 use Rattle.safety.specs.Count.{count}
 use Rattle.safety.specs.Rows.{Begins, Linked}
@@ -31,8 +32,8 @@ use Rattle.protocol.specs.OneCall.{Call, receive, timer, propose, CallTy
 -- "a call on that box: record (any bytes), timer (any view), propose (any name), or an opening that is refused" (the refusal is a premise below)
 pub data Step : Type 0 where
   calls : Call → Step
-  -- f, c, k, n, own number
-  reopens : ℕ → ℕ → ℕ → ℕ → ℕ → Step
+  -- f, c, k, n, own number, leader list
+  reopens : ℕ → ℕ → ℕ → ℕ → ℕ → List ℕ → Step
 
 -- "Each entry names an honest box, an output region of any length and a call on that box": the region and the call; an entry is the box's number with them
 pub record Entry : Type 0 where
@@ -42,7 +43,7 @@ pub record Entry : Type 0 where
 -- what the call leaves, on a replica's counters, memory and store. "A box's first entry gets the memory and store that its opening left, each later
 -- one what that box's entry before left": `left` of it
 unfoldable pub outcomeOf : Replica → Entry → Outcome
-outcomeOf r e = elim (e .step) [ calls c ↦ callOn r (e .output) c | reopens f c k m own ↦ openingCall r f c k m own ]
+outcomeOf r e = elim (e .step) [ calls c ↦ callOn byList r (e .output) c | reopens f c k m own leaders ↦ openingCall r f c k m own leaders ]
 
 abbrev pub accepted : {A : Type 0} → Answer A → Bool
 accepted (accepts a) = true
@@ -96,7 +97,7 @@ abbrev pub stepSays : ℕ → Step → List (ℕ × List ℕ)
 stepSays n (calls (receive b)) = recordSays n b (content b)
 stepSays n (calls (timer v)) = []
 stepSays n (calls (propose x)) = []
-stepSays n (reopens f c k m own) = []
+stepSays n (reopens f c k m own leaders) = []
 
 -- a call is asked what it says only where it is accepted
 unfoldable pub says : Replica → Entry → List (ℕ × List ℕ)
@@ -126,7 +127,7 @@ abbrev pub stepGives : Step → List Placement
 stepGives (calls (receive b)) = recordGives (content b)
 stepGives (calls (timer v)) = []
 stepGives (calls (propose x)) = []
-stepGives (reopens f c k m own) = []
+stepGives (reopens f c k m own leaders) = []
 
 unfoldable pub gives : Replica → Entry → List Placement
 gives r e = cond (accepted (outcomeOf r e .reply)) (stepGives (e .step) ++ recordsGive (makes r e)) []
@@ -134,12 +135,12 @@ gives r e = cond (accepted (outcomeOf r e .reply)) (stepGives (e .step) ++ recor
 -- what is handed over has the types of the interface: any bytes, any view of 64 bits, any name of 32 bytes
 abbrev pub StepTyped : Step → Type 0
 StepTyped (calls c) = CallTyped c
-StepTyped (reopens f c k m own) = Unit {0}
+StepTyped (reopens f c k m own leaders) = Unit {0}
 
 -- "an opening that is refused"
 abbrev pub Refused : Step → Replica → Type 0
 Refused (calls c) r = Unit {0}
-Refused (reopens f c k m own) r = accepted (openingCall r f c k m own .reply) ≡ false
+Refused (reopens f c k m own leaders) r = accepted (openingCall r f c k m own leaders .reply) ≡ false
 
 -- a replica as a step machine: its records are bytes
 abbrev pub replicaMachine : Machine
@@ -170,15 +171,15 @@ abbrev pub reads : List ℕ → Read (List ℕ)
 reads r = readOf (content r)
 
 -- ---- THE PREMISES
--- "each opened by one accepted opening, with the same settings and different numbers": over regions of any length and content, number i. "one never opened
--- counts as opened and without entries"
-pub record Opened (set : Settings) (i : ℕ) (r : Replica) : Type 0 where
+-- "each opened by one accepted opening, with the same settings and different numbers": over regions of any length and content, number i; 02, 2.1: "rings whose
+-- honest boxes were opened with the same list". "one never opened counts as opened and without entries"
+pub record Opened (set : Settings) (leaders : List ℕ) (i : ℕ) (r : Replica) : Type 0 where
   pub lent : Replica
   pub counters : CountersTyped (lent .counters)
   pub memory : IsBytes (lent .memory)
   pub store : All BlockTyped (lent .store)
   pub work : Work
-  pub opens : openingCore lent (set .f) (set .c) (set .k) (replicas set) i ≡ accepts work
+  pub opens : openingCore lent (set .f) (set .c) (set .k) (replicas set) i leaders ≡ accepts work
   pub leaves : r ≡ record { counters = work .counters; memory = work .memory; store = work .store }
 
 module _ (set : Settings) (honest : ℕ → Bool) (σ : ℕ → Replica) where
@@ -190,11 +191,12 @@ module _ (set : Settings) (honest : ℕ → Bool) (σ : ℕ → Replica) where
     abbrev pub placed : List Placement
     placed = placements M σ run
 
-    pub record Premises : Type 0 where
+    -- of a cluster whose leader list is this one
+    pub record Premises (leaders : List ℕ) : Type 0 where
       -- "At least n−f boxes of the ring are honest"; "numbered 0 to n−1"
       pub enough : replicas set ≤ set .f + count honest (replicas set)
       pub numbers : (i : ℕ) → T (honest i) → i < replicas set
-      pub opened : (i : ℕ) → T (honest i) → Opened set i (σ i)
+      pub opened : (i : ℕ) → T (honest i) → Opened set leaders i (σ i)
       -- "Each entry names an honest box"; "The other boxes have no entries."
       pub on-honest : All (λ (e : ℕ × Entry). T (honest (e .0))) run
       -- every opening in the list is refused where it stands; what is handed over has its type
@@ -226,6 +228,7 @@ module _ (set : Settings) (honest : ℕ → Bool) (σ : ℕ → Replica) where
       pub shorter : (i j : ℕ) → T (honest i) → T (honest j) → length (rowOf i) ≤ length (rowOf j) → Begins (rowOf i) (rowOf j)
       pub same : (i j : ℕ) → T (honest i) → T (honest j) → length (rowOf i) ≡ length (rowOf j) → rowOf i ≡ rowOf j
 
--- DEMAND 3: for every settings, choice of honest replicas, opened states and list of entries
+-- DEMAND 3: for every settings, leader list, choice of honest replicas, opened states and list of entries
 abbrev pub Demand3 : Type 0
-Demand3 = (set : Settings) (honest : ℕ → Bool) (σ : ℕ → Replica) (run : List (ℕ × Entry)) → Premises set honest σ run → OneChain set honest σ run
+Demand3 =
+    (set : Settings) (leaders : List ℕ) (honest : ℕ → Bool) (σ : ℕ → Replica) (run : List (ℕ × Entry)) → Premises set honest σ run leaders → OneChain set honest σ run

@@ -1,26 +1,26 @@
 -- When a replica refuses (01: Refusals, by place, in this order): for each kind of record, for the timer and for propose, the list of rules.
--- 3, 4 and 5 of a record are `shapeRules` of `wire`. Assumes nothing.
+-- 3, 4 and 5 of a record are `shapeRules` of `wire`. Who leads a view is left open: `lead` is 01's rule, or the list of 02, 2.1. Assumes nothing.
 use Prim.Native.Nat.{ℕ, suc, _+_, _*_}
-use mathlib.Core.Bool.{Bool, true, false, cond, not, _&&_, _||_}
+use mathlib.Core.Bool.{Bool, true, cond, not, _&&_, _||_}
 use mathlib.Core.List.{List, [], _∷_}
 use lib.Dec.{eqb, ltb, leb}
 use lib.ListN.{length}
 use Rattle.settings.specs.Answer.{Rule, _⇒_}
-use Rattle.settings.specs.Quorum.{largest, lastView, lastHeight, replicas}
-use Rattle.settings.specs.Opening.{inBound}
+use Rattle.settings.specs.Quorum.{largest, lastView, lastHeight}
+use Rattle.settings.specs.Opening.{inBound, mostLeaders}
 use Rattle.codec.specs.Names.{nameLength, sameBytes, zeroName}
 use Rattle.wire.specs.Fields.{kindOf, countOf, blockCertificateLength, timeoutsHead, timeoutLength}
-use Rattle.wire.specs.Encode.{timeoutBytes}
 use Rattle.wire.specs.Content.{Certificate, byBlock, byTimeouts, certificateOf, Content, vote, commit, certificate, timeout, proposal, block, release}
 use Rattle.certificate.specs.Rank.{blockCertificate, outranks}
 use Rattle.certificate.specs.Good.{isGood, timeoutGood, progressGood}
 use Rattle.certificate.specs.Safe.{safeCertificate}
 use Rattle.blocks.specs.declared.Block.{Block}
-use Rattle.memory.specs.Layout.{memoryLength, voteRow, commitRow, timeoutRow, settingsOf, ownOf, blockCountOf, entryOf, entryLengthOf}
+use Rattle.memory.specs.Layout.{memoryLength, voteRow, commitRow, timeoutRow, blockCountOf, leaderCountOf, entryOf}
 use Rattle.memory.specs.Kept.{has, kept}
-use Rattle.memory.specs.Window.{lowest, leaderOf}
+use Rattle.memory.specs.Window.{lowest}
+use Rattle.memory.specs.Leaders.{Leading}
 use Rattle.counters.specs.Counters.{locksOf}
-use Rattle.protocol.specs.Work.{Work, settings, n, own, viewNow, timed, highView, tip, blocks, heldBlock}
+use Rattle.protocol.specs.Work.{Work, settings, n, own, viewNow, timed, highView, tip, heldBlock}
 
 -- "it holds 128 beside the tip"; "The output region has 32,768 bytes"
 abbrev pub storeLength : ℕ
@@ -47,7 +47,8 @@ module _ (W : Work) where
   regular =
       leb (n W) largest && (inBound (settings W) && (ltb (own W) (n W)
       && (leb 1 (viewNow W) && (leb (viewNow W) lastView
-      && (leb (blockCountOf (W .memory)) storeLength && entryRegular)))))
+      && (leb (blockCountOf (W .memory)) storeLength && (entryRegular
+      && (leb 1 (leaderCountOf (W .memory)) && leb (leaderCountOf (W .memory)) mostLeaders)))))))
 
   unfoldable pub regionRules : ℕ → List Rule
   regionRules room =
@@ -100,34 +101,34 @@ module _ (W : Work) where
   child x y h = record { name = x; parent = y; height = record { 0 = h } }
 
   -- ---- THE TABLE, from 6 on, for a record r that passed the place "shape"
-  unfoldable pub refusals : List ℕ → Content → List Rule
-  refusals r (vote j v x) =
+  unfoldable pub refusals : Leading → List ℕ → Content → List Rule
+  refusals lead r (vote j v x) =
       notOther j ⇒ 6
       ∷ ltb v (lowest (viewNow W)) ⇒ 7
       ∷ aboveWindow v ⇒ 8
       ∷ (has (W .memory) (voteRow v) j && sameBytes (kept (W .memory) (voteRow v) nameLength j) x) ⇒ 10
       ∷ has (W .memory) (voteRow v) j ⇒ 11
       ∷ []
-  refusals r (commit j v x) =
+  refusals lead r (commit j v x) =
       notOther j ⇒ 6
       ∷ ltb v (lowest (viewNow W)) ⇒ 7
       ∷ aboveWindow v ⇒ 8
       ∷ (has (W .memory) (commitRow v) j && sameBytes (kept (W .memory) (commitRow v) nameLength j) x) ⇒ 10
       ∷ has (W .memory) (commitRow v) j ⇒ 11
       ∷ []
-  refusals r (certificate j (byBlock v x g)) =
+  refusals lead r (certificate j (byBlock v x g)) =
       leb (n W) j ⇒ 6
       ∷ leb lastView v ⇒ 8
       ∷ not (isGood (settings W) (blockCertificate v x g)) ⇒ 9
       ∷ not (outranks (blockCertificate v x g) (locksOf (W .counters) .lock)) ⇒ 10
       ∷ []
-  refusals r (certificate j (byTimeouts v ts)) =
+  refusals lead r (certificate j (byTimeouts v ts)) =
       leb (n W) j ⇒ 6
       ∷ belowView v ⇒ 7
       ∷ leb lastView v ⇒ 8
       ∷ not (progressGood (settings W) (byTimeouts v ts)) ⇒ 9
       ∷ []
-  refusals r (timeout t) =
+  refusals lead r (timeout t) =
       notOther (t .sender) ⇒ 6
       ∷ belowView (t .view .0) ⇒ 7
       ∷ aboveWindow (t .view .0) ⇒ 8
@@ -135,8 +136,8 @@ module _ (W : Work) where
       ∷ (has (W .memory) (timeoutRow (t .view .0)) (t .sender) && sameBytes (kept (W .memory) (timeoutRow (t .view .0)) timeoutLength (t .sender)) r) ⇒ 10
       ∷ has (W .memory) (timeoutRow (t .view .0)) (t .sender) ⇒ 11
       ∷ []
-  refusals r (proposal j v x y h k) =
-      (notOther j || (ltb 0 v && not (eqb j (leaderOf (settings W) v)))) ⇒ 6
+  refusals lead r (proposal j v x y h k) =
+      (notOther j || (ltb 0 v && not (eqb j (lead (W .memory) v)))) ⇒ 6
       ∷ belowView v ⇒ 7
       ∷ leb lastView v ⇒ 8
       ∷ (not (progressGood (settings W) k && eqb (suc (viewOfProgress k)) v)) ⇒ 9
@@ -146,7 +147,7 @@ module _ (W : Work) where
       ∷ (not (sameBytes y (safeName k)) || misplaced (child x y h)) ⇒ 13
       ∷ noRoom x ⇒ 14
       ∷ []
-  refusals r (block j x y h) =
+  refusals lead r (block j x y h) =
       leb (n W) j ⇒ 6
       ∷ heldSame (child x y h) ⇒ 10
       ∷ heldOther (child x y h) ⇒ 11
@@ -154,7 +155,7 @@ module _ (W : Work) where
       ∷ misplaced (child x y h) ⇒ 13
       ∷ noRoom x ⇒ 14
       ∷ []
-  refusals r (release j v x h) = true ⇒ 4 ∷ []
+  refusals lead r (release j v x h) = true ⇒ 4 ∷ []
 
   -- the timer
   unfoldable pub timerRules : ℕ → List Rule
@@ -170,9 +171,9 @@ module _ (W : Work) where
       let y = safeName (certificateOf (entryOf (W .memory))) in
       child x y (suc (heldBlock W y .block .height .0))
 
-  unfoldable pub proposeRules : List ℕ → List Rule
-  proposeRules x =
-      (not (eqb (leaderOf (settings W) (viewNow W)) (own W)) || (leb (viewNow W) (timed W) || (eqb (highView W) (viewNow W) || leb lastView (viewNow W)))) ⇒ 15
+  unfoldable pub proposeRules : Leading → List ℕ → List Rule
+  proposeRules lead x =
+      (not (eqb (lead (W .memory) (viewNow W)) (own W)) || (leb (viewNow W) (timed W) || (eqb (highView W) (viewNow W) || leb lastView (viewNow W)))) ⇒ 15
       ∷ sameBytes x zeroName ⇒ 5
       ∷ isHeld x ⇒ 11
       ∷ not (isHeld (nextBlock x .parent)) ⇒ 12

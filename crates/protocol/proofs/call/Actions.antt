@@ -22,7 +22,7 @@ use Rattle.blocks.proofs.Dropping.{held-within}
 use Rattle.blocks.proofs.Fewer.{kept-within, length-dropped}
 use Rattle.memory.specs.Layout.{blockCountOf, withBlockCount}
 use Rattle.memory.proofs.Apart.{votes, commits, timeouts}
-use Rattle.memory.proofs.Header.{length-with-count, bytes-with-count, count-put, count-settings, count-own, count-entry}
+use Rattle.memory.proofs.Header.{leaders-refl, count-leaders, length-with-count, bytes-with-count, count-put, count-settings, count-own, count-entry}
 use Rattle.counters.specs.declared.Counters.{Counters}
 use Rattle.counters.specs.Counters.{locksOf, timing, voting, releasing}
 use Rattle.protocol.specs.Work.{Work, view, own, blocks, withCounters, voteRecord, commitRecord, send, keepVote, keepCommit, keepTimeout, sendVote, sendCommit, ownTimeout, sendTimeout, release}
@@ -33,7 +33,7 @@ use Rattle.protocol.proofs.call.Regular.{Regular, Still, still-trans, r
 
 -- a state with the same memory and store
 pub same-still : (W W′ : Work) → W′ .memory ≡ W .memory → W′ .store ≡ W .store → Still W W′
-same-still W W′ m s = record { settings = rw m; own = rw m; memory = rw m; store = rw s }
+same-still W W′ m s = record { settings = rw m; own = rw m; leaders = rw m (leaders-refl (W .memory)); memory = rw m; store = rw s }
 
 -- ---- what is sent is kept
 voting-typed : (c : Counters) (v : ℕ) (x : List ℕ) → IsU64 v → IsName x → CountersTyped c → CountersTyped (voting c (record { view = view v; name = x }))
@@ -125,7 +125,7 @@ release-regular W v b t R =
     let few : k ≤ storeLength = omega (arith, R .room, kept-within b (blocks W), held-within c (W .store) .0) in
     let put : blockCountOf (withBlockCount m k) ≡ k = count-put m k (omega arith) (omega (arith, R .memory-long)) in
     let s : Still W (release v b W) =
-    record { settings = count-settings m k; own = count-own m k; memory = length-with-count m k; store = length-dropped b c (W .store) } in (
+    record { settings = count-settings m k; own = count-own m k; leaders = count-leaders m k; memory = length-with-count m k; store = length-dropped b c (W .store) } in (
       regular-after W (release v b W) R s
           (record { counters = releasing-typed (W .counters) b t (R .typed .counters); memory = bytes-with-count m k (R .typed .memory); store = dropped-typed b c (W .store) (R .typed .store) })
           (R .view-first) (R .view-last) (omega (arith, put)) (rw (count-entry m k) (R .entry)),

@@ -27,6 +27,7 @@ use Rattle.certificate.specs.Good.{progressGood}
 use Rattle.blocks.specs.declared.Block.{Block}
 use Rattle.memory.specs.Layout.{entryRoom, entryOf}
 use Rattle.memory.proofs.Apart.{votes, commits, timeouts}
+use Rattle.memory.specs.Leaders.{byList}
 use Rattle.protocol.specs.Work.{Work, settings, n, own, viewNow, heldBlock, send, keepVote, keepCommit, keepTimeout, hold}
 use Rattle.protocol.specs.Typed.{BlockTyped}
 use Rattle.protocol.specs.Refusals.{notOther, viewOfProgress, isHeld, misplaced, noRoom, child, nextBlock, refusals, proposeRules}
@@ -87,7 +88,7 @@ hold-done : (W : Work) (b : Block) → BlockTyped b → noRoom W (b .name) ≡ f
 hold-done W b t free R = done 0 W _ (omega arith) (hold-regular W b t (room-free W (b .name) free) R) (omega (arith, ap length (hold-out W b)))
 
 -- ---- a record, by what stands in it
-by-content : (W : Work) (r : List ℕ) (x : Content) → IsBytes r → Stands r x → Fits x → Proper (n W) x → Quiet (refusals W r x) → Regular W → Done eventRoom W (onRecord r x W)
+by-content : (W : Work) (r : List ℕ) (x : Content) → IsBytes r → Stands r x → Fits x → Proper (n W) x → Quiet (refusals W byList r x) → Regular W → Done eventRoom W (onRecord r x W)
 unfolding onRecord refusals Fits Proper keepVote keepCommit keepTimeout encode
 by-content W r (vote j v x) b h f p q R =
     done 0 W _ (omega arith) (keep-regular W votes v j x (omega (arith, other-low W j (q .0), R .few)) (f .2 .size) (f .2 .bytes) R) (omega arith)
@@ -110,7 +111,7 @@ by-content W r (proposal j v x y i k) b h f p q R =
 by-content W r (block j x y i) b h f p q R = hold-done W (child W x y i) (record { name = f .1; parent = f .2; height = f .3 }) (q .1 .1 .1 .1 .1 .0) R
 by-content W r (release j v x i) b h f p q R = absurd p
 
-pub record-done : (W : Work) (r : List ℕ) → IsBytes r → Quiet (shapeRules (n W) r) → Quiet (refusals W r (content r)) → Regular W → Done eventRoom W (onRecord r (content r) W)
+pub record-done : (W : Work) (r : List ℕ) → IsBytes r → Quiet (shapeRules (n W) r) → Quiet (refusals W byList r (content r)) → Regular W → Done eventRoom W (onRecord r (content r) W)
 record-done W r b s q R =
     let (x, h, f, p) = taken (n W) r b s in
     let e : content r ≡ x = content-stands r x f h in
@@ -125,7 +126,7 @@ bytes-entry : (m : List ℕ) → IsBytes m → IsBytes (entryOf m)
 unfolding entryOf
 bytes-entry m b = bytes-part m _ _ b
 
-pub propose-done : (W : Work) (x : List ℕ) → IsName x → Quiet (proposeRules W x) → Regular W → Done eventRoom W (onPropose x W)
+pub propose-done : (W : Work) (x : List ℕ) → IsName x → Quiet (proposeRules W byList x) → Regular W → Done eventRoom W (onPropose x W)
 unfolding onPropose proposeRules
 propose-done W x hx q R =
     let r = entryOf (W .memory) in

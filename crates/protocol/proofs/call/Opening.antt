@@ -1,4 +1,4 @@
--- What an accepted opening leaves: the settings and own number given, no held block, the genesis certificate as entry, empty rows; it is regular.
+-- What an accepted opening leaves: the settings, own number and leader list given, no held block, the genesis certificate as entry, empty rows; it is regular.
 -- Assumes nothing.
 use Prim.Native.Nat.{ℕ, _+_, _^_, _≤_, _<_}
 use native.Mathlib.Omega.{arith}
@@ -10,7 +10,8 @@ use lib.Dec.{lit<, lit≤}
 use lib.ListN.{length, length-append}
 use Rattle.settings.specs.declared.Settings.{Settings}
 use Rattle.settings.specs.Quorum.{largest, replicas}
-use Rattle.settings.specs.Opening.{inBound, openingRules}
+use Rattle.settings.specs.Opening.{inBound, openingRules, badLeaders, leaderRules}
+use Rattle.settings.proofs.Leaders.{Good, good-leaders}
 use Rattle.settings.specs.Answer.{accepts}
 use Rattle.codec.specs.Bytes.{IsBytes, patch, leNat, leBytes}
 use Rattle.codec.specs.Names.{zeroName}
@@ -23,10 +24,10 @@ use Rattle.wire.proofs.Facts.{off-judge}
 use Rattle.wire.proofs.Lengths.{length-blockCertificate}
 use Rattle.wire.proofs.Rows.{bytes-leBytes}
 use Rattle.blocks.specs.declared.Block.{Block}
-use Rattle.memory.specs.Layout.{memoryLength, entryRoom, settingsOf, ownOf, blockCountOf, entryOf, withBlockCount, withEntry}
+use Rattle.memory.specs.Layout.{memoryLength, entryPlace, entryRoom, settingsOf, ownOf, blockCountOf, leaderCountOf, leadersOf, entryOf, withBlockCount, withLeaders, withEntry}
 use Rattle.memory.specs.Kept.{has}
 use Rattle.memory.proofs.Apart.{Table, rowOf}
-use Rattle.memory.proofs.Header.{SameHeader, same-header, length-with-count, bytes-with-count, count-put, count-settings, count-own, length-with-entry, bytes-with-entry, entry-settings, entry-own, entry-block-count, entry-length-put, entry-put}
+use Rattle.memory.proofs.Header.{settings-same, own-same, SameHeader, same-header, SameLeaders, leaders-trans, length-with-leaders, bytes-with-leaders, leaders-before, leader-count-put, leaders-put, count-leaders, entry-leaders, length-with-count, bytes-with-count, count-put, count-settings, count-own, length-with-entry, bytes-with-entry, entry-settings, entry-own, entry-block-count, entry-length-put, entry-put}
 use Rattle.memory.proofs.Emptying.{emptied, length-emptied, bytes-emptied, emptied-head, emptied-none}
 use Rattle.counters.specs.Counters.{opened}
 use Rattle.protocol.specs.Work.{Work}
@@ -37,11 +38,12 @@ use Rattle.protocol.proofs.call.Typing.{zero-is-name}
 use Rattle.protocol.proofs.call.Regular.{Regular, ProgressForm}
 use Rattle.protocol.proofs.call.Certificates.{block-form}
 
--- ---- settings and own number that an opening accepts
-pub record Openable (s : Settings) (own : ℕ) : Type 0 where
+-- ---- settings, own number and leader list that an opening accepts
+pub record Openable (s : Settings) (own : ℕ) (leaders : List ℕ) : Type 0 where
   pub few : replicas s ≤ largest
   pub bound : inBound s ≡ true
   pub member : own < replicas s
+  pub list : badLeaders (replicas s) leaders ≡ false
 
 -- ---- the first eight bytes
 module _ (m : List ℕ) (f c k o : ℕ) where
@@ -87,22 +89,38 @@ module _ (m : List ℕ) (f c k o : ℕ) where
       (bytes-patch _ 6 _ (bytes-patch _ 4 _ (bytes-patch _ 2 _ (bytes-patch m 0 _ b (bytes-leBytes 2 f)) (bytes-leBytes 2 c)) (bytes-leBytes 2 k)) (bytes-leBytes 2 o))
 
 -- ---- the memory that an opening leaves
-module _ (m : List ℕ) (s : Settings) (own : ℕ) where
+module _ (m : List ℕ) (s : Settings) (own : ℕ) (leaders : List ℕ) where
+  begun₀ : List ℕ
+  begun₀ = begun m (s .f) (s .c) (s .k) own
+
+  led : List ℕ
+  led = withLeaders begun₀ leaders
+
   headed : List ℕ
-  headed = withBlockCount (begun m (s .f) (s .c) (s .k) own) 0
+  headed = withBlockCount led 0
 
   entry₀ : List ℕ
   entry₀ = blockCertificateBytes own 0 zeroName 0
 
-  opened-is : openedMemory m s own ≡ emptied (withEntry headed entry₀)
-  unfolding openedMemory headed entry₀ begun
+  opened-is : openedMemory m s own leaders ≡ emptied (withEntry headed entry₀)
+  unfolding openedMemory headed led begun₀ entry₀ begun
   opened-is = refl
 
-  pub length-opened : length (openedMemory m s own) ≡ length m
-  unfolding headed
-  length-opened = rw opened-is (length-emptied _ ∙ length-with-entry headed entry₀ ∙ length-with-count _ 0 ∙ length-begun m (s .f) (s .c) (s .k) own)
+  length-led : length led ≡ length m
+  unfolding led begun₀
+  length-led = length-with-leaders begun₀ leaders ∙ length-begun m (s .f) (s .c) (s .k) own
 
-  module _ (o : Openable s own) where
+  pub length-opened : length (openedMemory m s own leaders) ≡ length m
+  unfolding headed
+  length-opened = rw opened-is (length-emptied _ ∙ length-with-entry headed entry₀ ∙ length-with-count led 0 ∙ length-led)
+
+  module _ (o : Openable s own leaders) where
+    good : Good (replicas s) leaders
+    good = good-leaders (replicas s) leaders (o .list)
+
+    bytes-leaders : IsBytes leaders
+    bytes-leaders i = omega (arith, good .below i (omega arith), o .few)
+
     entry₀-form : ProgressForm (replicas s) entry₀
     unfolding entry₀
     entry₀-form = block-form own 0 zeroName 0 (omega (arith, o .few, o .member)) (lit< tt) zero-is-name (lit< tt) (replicas s)
@@ -111,43 +129,65 @@ module _ (m : List ℕ) (s : Settings) (own : ℕ) where
     unfolding entry₀
     length-entry₀ = omega (arith, length-blockCertificate zeroName zero-is-name own 0 0)
 
-    pub bytes-opened : IsBytes m → IsBytes (openedMemory m s own)
-    unfolding headed
-    bytes-opened b = rw opened-is (bytes-emptied _ (bytes-with-entry headed entry₀ (bytes-with-count _ 0 (bytes-begun m (s .f) (s .c) (s .k) own b)) (entry₀-form .bytes)))
+    pub bytes-opened : IsBytes m → IsBytes (openedMemory m s own leaders)
+    unfolding headed led begun₀
+    bytes-opened b =
+        rw opened-is
+        (bytes-emptied _
+        (bytes-with-entry headed entry₀ (bytes-with-count led 0 (bytes-with-leaders begun₀ leaders (bytes-begun m (s .f) (s .c) (s .k) own b) bytes-leaders)) (entry₀-form .bytes)))
 
     module _ (long : memoryLength ≤ length m) where
       head-long : memoryLength ≤ length headed
       unfolding headed
-      head-long = omega (arith, length-with-count (begun m (s .f) (s .c) (s .k) own) 0, length-begun m (s .f) (s .c) (s .k) own)
+      head-long = omega (arith, length-with-count led 0, length-led)
 
-      same : SameHeader (withEntry headed entry₀) (openedMemory m s own)
+      same : SameHeader (withEntry headed entry₀) (openedMemory m s own leaders)
       same = rw opened-is (same-header _ _ (emptied-head (withEntry headed entry₀)))
 
-      pub opened-settings : settingsOf (openedMemory m s own) ≡ s
-      unfolding headed
+      pub opened-settings : settingsOf (openedMemory m s own leaders) ≡ s
+      unfolding headed led begun₀
       opened-settings =
-          same .settings ∙ entry-settings headed entry₀ ∙ count-settings _ 0
+          same .settings ∙ entry-settings headed entry₀ ∙ count-settings led 0 ∙ settings-same begun₀ led 12 (leaders-before begun₀ leaders) (omega arith)
           ∙ begun-settings m (s .f) (s .c) (s .k) own long (omega (arith, o .few)) (omega (arith, o .few)) (omega (arith, o .few))
 
-      pub opened-own : ownOf (openedMemory m s own) ≡ own
-      unfolding headed ownOf
-      opened-own = same .own ∙ entry-own headed entry₀ ∙ count-own _ 0 ∙ begun-own m (s .f) (s .c) (s .k) own long (omega (arith, o .few, o .member))
+      pub opened-own : ownOf (openedMemory m s own leaders) ≡ own
+      unfolding headed led begun₀ ownOf
+      opened-own =
+          same .own ∙ entry-own headed entry₀ ∙ count-own led 0 ∙ own-same begun₀ led 12 (leaders-before begun₀ leaders) (omega arith)
+          ∙ begun-own m (s .f) (s .c) (s .k) own long (omega (arith, o .few, o .member))
 
-      pub opened-count : blockCountOf (openedMemory m s own) ≡ 0
+      -- the list that it was given
+      begun-long : entryPlace ≤ length begun₀
+      unfolding begun₀
+      begun-long = omega (arith, length-begun m (s .f) (s .c) (s .k) own)
+
+      still-led : SameLeaders led (openedMemory m s own leaders)
       unfolding headed
-      opened-count = same .blockCount ∙ entry-block-count headed entry₀ ∙ count-put _ 0 (lit< tt) (omega (arith, length-begun m (s .f) (s .c) (s .k) own))
+      still-led = leaders-trans led _ _ (leaders-trans led headed _ (count-leaders led 0) (entry-leaders headed entry₀)) (same .leaders)
 
-      pub opened-entry : entryOf (openedMemory m s own) ≡ blockCertificateBytes own 0 zeroName 0
+      pub opened-leader-count : leaderCountOf (openedMemory m s own leaders) ≡ length leaders
+      unfolding led
+      opened-leader-count = still-led .count ∙ leader-count-put begun₀ leaders (good .most) begun-long
+
+      pub opened-leaders : leadersOf (openedMemory m s own leaders) ≡ leaders
+      unfolding led
+      opened-leaders = still-led .list ∙ leaders-put begun₀ leaders (good .most) begun-long
+
+      pub opened-count : blockCountOf (openedMemory m s own leaders) ≡ 0
+      unfolding headed
+      opened-count = same .blockCount ∙ entry-block-count headed entry₀ ∙ count-put led 0 (lit< tt) (omega (arith, length-led))
+
+      pub opened-entry : entryOf (openedMemory m s own leaders) ≡ blockCertificateBytes own 0 zeroName 0
       unfolding entry₀
       opened-entry = same .entry (omega (arith, entry-length-put headed entry₀ length-entry₀ head-long, length-entry₀)) ∙ entry-put headed entry₀ length-entry₀ head-long
 
       -- no row of any table has an entry
-      pub opened-none : (t : Table) (v i : ℕ) → has (openedMemory m s own) (rowOf t v) i ≡ false
+      pub opened-none : (t : Table) (v i : ℕ) → has (openedMemory m s own leaders) (rowOf t v) i ≡ false
       opened-none t v i = rw opened-is (emptied-none i (withEntry headed entry₀) (omega (arith, length-with-entry headed entry₀, head-long)) t v)
 
 -- ---- the state that an opening leaves
-abbrev pub openedWork : List ℕ → List Block → Settings → ℕ → Work
-openedWork m st s own = record { counters = opened; memory = openedMemory m s own; store = st; out = [] }
+abbrev pub openedWork : List ℕ → List Block → Settings → ℕ → List ℕ → Work
+openedWork m st s own leaders = record { counters = opened; memory = openedMemory m s own leaders; store = st; out = [] }
 
 opened-typed : CountersTyped opened
 unfolding opened
@@ -161,50 +201,54 @@ opened-typed =
       tip = record { name = zero-is-name; parent = zero-is-name; height = lit< tt };
     }
 
-pub opened-regular : (m : List ℕ) (st : List Block) (s : Settings) (own : ℕ) → Openable s own → IsBytes m → All BlockTyped st → memoryLength ≤ length m → storeLength ≤ length st → Regular (openedWork m st s own)
+pub opened-regular : (m : List ℕ) (st : List Block) (s : Settings) (own : ℕ) (leaders : List ℕ) → Openable s own leaders → IsBytes m → All BlockTyped st → memoryLength ≤ length m
+    → storeLength ≤ length st → Regular (openedWork m st s own leaders)
 unfolding opened entry₀
-opened-regular m st s own o b t long room =
+opened-regular m st s own leaders o b t long room =
     record {
-      typed = record { counters = opened-typed; memory = bytes-opened m s own o b; store = t };
-      memory-long = omega (arith, length-opened m s own);
+      typed = record { counters = opened-typed; memory = bytes-opened m s own leaders o b; store = t };
+      memory-long = omega (arith, length-opened m s own leaders);
       store-long = room;
-      few = rw (opened-settings m s own o long) (o .few);
-      bound = rw (opened-settings m s own o long) (o .bound);
-      member = rw (opened-settings m s own o long, opened-own m s own o long) (o .member);
+      few = rw (opened-settings m s own leaders o long) (o .few);
+      bound = rw (opened-settings m s own leaders o long) (o .bound);
+      member = rw (opened-settings m s own leaders o long, opened-own m s own leaders o long) (o .member);
       view-first = lit≤ tt;
       view-last = lit≤ tt;
-      room = omega (arith, opened-count m s own o long);
-      entry = rw (opened-settings m s own o long, opened-entry m s own o long) (entry₀-form m s own o .form);
+      room = omega (arith, opened-count m s own leaders o long);
+      entry = rw (opened-settings m s own leaders o long, opened-entry m s own leaders o long) (entry₀-form m s own leaders o .form);
+      leaders-some = let g = good-leaders (replicas s) leaders (o .list) in omega (arith, opened-leader-count m s own leaders o long, g .some);
+      leaders-most = let g = good-leaders (replicas s) leaders (o .list) in omega (arith, opened-leader-count m s own leaders o long, g .most);
     }
 
--- ---- an opening that is accepted: its five numbers, the lengths of the regions, and what it leaves
-pub record OpenedBy (r : Replica) (f c k n own : ℕ) (W : Work) : Type 0 where
+-- ---- an opening that is accepted: its five numbers and its list, the lengths of the regions, and what it leaves
+pub record OpenedBy (r : Replica) (f c k n own : ℕ) (leaders : List ℕ) (W : Work) : Type 0 where
   pub count : n ≡ replicas (record { f = f; c = c; k = k })
-  pub openable : Openable (record { f = f; c = c; k = k }) own
+  pub openable : Openable (record { f = f; c = c; k = k }) own leaders
   pub memory : memoryLength ≤ length (r .memory)
   pub store : storeLength ≤ length (r .store)
-  pub left : W ≡ openedWork (r .memory) (r .store) (record { f = f; c = c; k = k }) own
+  pub left : W ≡ openedWork (r .memory) (r .store) (record { f = f; c = c; k = k }) own leaders
 
-pub opening-accepts : (r : Replica) (f c k n own : ℕ) (W : Work) → openingCore r f c k n own ≡ accepts W → OpenedBy r f c k n own W
-unfolding openingCore openingRules
-opening-accepts r f c k n own W e =
+pub opening-accepts : (r : Replica) (f c k n own : ℕ) (leaders : List ℕ) (W : Work) → openingCore r f c k n own leaders ≡ accepts W → OpenedBy r f c k n own leaders W
+unfolding openingCore openingRules leaderRules
+opening-accepts r f c k n own leaders W e =
     let s : Settings = record { f = f; c = c; k = k } in
     let q = off-judge _ _ W .0 e in
     let t = q .0 in
     let count : n ≡ replicas s = eqb-true _ _ (not-false _ (t .0)) in
     let small : n ≤ largest = ltb-false _ _ (t .1 .0) in
     let low : own < n = leb-false _ _ (t .1 .1 .1 .0) in
+    let listed : badLeaders n leaders ≡ false = t .1 .1 .1 .1 .0 in
     record {
       count = count;
-      openable = record { few = omega arith; bound = not-false _ (t .1 .1 .0); member = omega arith };
-      memory = ltb-false _ _ (t .1 .1 .1 .1 .0);
-      store = ltb-false _ _ (t .1 .1 .1 .1 .1 .0);
+      openable = record { few = omega arith; bound = not-false _ (t .1 .1 .0); member = omega arith; list = rw count at listed };
+      memory = ltb-false _ _ (t .1 .1 .1 .1 .1 .0);
+      store = ltb-false _ _ (t .1 .1 .1 .1 .1 .1 .0);
       left = sym (q .1);
     }
 
 -- and the other way round: settings that can be opened, over regions that are long enough
-pub opening-takes : (r : Replica) (s : Settings) (own : ℕ) → Openable s own → memoryLength ≤ length (r .memory) → storeLength ≤ length (r .store)
-    → openingCore r (s .f) (s .c) (s .k) (replicas s) own ≡ accepts (openedWork (r .memory) (r .store) s own)
-unfolding openingCore openingRules
-opening-takes r s own o long many =
-    off-judge _ _ _ .1 ((ap not (eq-eqb (replicas s) (replicas s) refl), (le-ltb _ _ (o .few), (ap not (o .bound), (lt-leb _ _ (o .member), (le-ltb _ _ long, (le-ltb _ _ many, tt)))))), refl)
+pub opening-takes : (r : Replica) (s : Settings) (own : ℕ) (leaders : List ℕ) → Openable s own leaders → memoryLength ≤ length (r .memory) → storeLength ≤ length (r .store)
+    → openingCore r (s .f) (s .c) (s .k) (replicas s) own leaders ≡ accepts (openedWork (r .memory) (r .store) s own leaders)
+unfolding openingCore openingRules leaderRules
+opening-takes r s own leaders o long many =
+    off-judge _ _ _ .1 ((ap not (eq-eqb (replicas s) (replicas s) refl), (le-ltb _ _ (o .few), (ap not (o .bound), (lt-leb _ _ (o .member), (o .list, (le-ltb _ _ long, (le-ltb _ _ many, tt))))))), refl)

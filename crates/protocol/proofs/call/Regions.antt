@@ -12,7 +12,8 @@ use Rattle.wire.specs.Content.{Content, vote, commit, certificate, timeout, pro
 use Rattle.wire.specs.Fit.{All}
 use Rattle.wire.specs.Shape.{shapeRules}
 use Rattle.wire.proofs.Facts.{Quiet}
-use Rattle.memory.specs.Layout.{settingsOf, ownOf}
+use Rattle.memory.specs.Layout.{settingsOf, ownOf, leadersOf}
+use Rattle.memory.specs.Leaders.{Leading, byList}
 use Rattle.protocol.specs.Work.{Work, n}
 use Rattle.protocol.specs.Typed.{BlockTyped}
 use Rattle.protocol.specs.Refusals.{outputLength, regionRules, refusals, timerRules, proposeRules}
@@ -49,16 +50,16 @@ unfolding All
 other-append b [] t p q = q
 other-append b (r ∷ s) t p q = (p .0, other-append b s t (p .1) q)
 
-refusals-other : (W : Work) (r : List ℕ) (x : Content) → Other 2 (refusals W r x)
+refusals-other : (W : Work) (lead : Leading) (r : List ℕ) (x : Content) → Other 2 (refusals W lead r x)
 unfolding refusals All
-refusals-other W r (vote j v x) = omega arith
-refusals-other W r (commit j v x) = omega arith
-refusals-other W r (certificate j (byBlock v x g)) = omega arith
-refusals-other W r (certificate j (byTimeouts v ts)) = omega arith
-refusals-other W r (timeout t) = omega arith
-refusals-other W r (proposal j v x y h k) = omega arith
-refusals-other W r (block j x y h) = omega arith
-refusals-other W r (release j v x h) = omega arith
+refusals-other W lead r (vote j v x) = omega arith
+refusals-other W lead r (commit j v x) = omega arith
+refusals-other W lead r (certificate j (byBlock v x g)) = omega arith
+refusals-other W lead r (certificate j (byTimeouts v ts)) = omega arith
+refusals-other W lead r (timeout t) = omega arith
+refusals-other W lead r (proposal j v x y h k) = omega arith
+refusals-other W lead r (block j x y h) = omega arith
+refusals-other W lead r (release j v x h) = omega arith
 
 shape-other : (k : ℕ) (r : List ℕ) → Other 2 (shapeRules k r)
 unfolding All
@@ -68,20 +69,20 @@ timer-other : (W : Work) (v : ℕ) → Other 2 (timerRules W v)
 unfolding timerRules All
 timer-other W v = omega arith
 
-propose-other : (W : Work) (x : List ℕ) → Other 2 (proposeRules W x)
+propose-other : (W : Work) (lead : Leading) (x : List ℕ) → Other 2 (proposeRules W lead x)
 unfolding proposeRules All
-propose-other W x = omega arith
+propose-other W lead x = omega arith
 
 -- ---- a regular replica
 core-never : (r : Replica) (room : ℕ) (c : Call) → RegularReplica r → outputLength ≤ room → coreOf r room c ≡ refuses 2 → ⊥
 unfolding coreOf recordCore timerCore proposeCore
 core-never r room (receive bytes) R h e =
     let W = begin r in
-    judge-quiet _ 2 (regionRules W room) _ (regular-regions W room R h) (other-append 2 (shapeRules (n W) bytes) _ (shape-other (n W) bytes) (refusals-other W bytes (content bytes))) e
+    judge-quiet _ 2 (regionRules W room) _ (regular-regions W room R h) (other-append 2 (shapeRules (n W) bytes) _ (shape-other (n W) bytes) (refusals-other W byList bytes (content bytes))) e
 core-never r room (timer v) R h e = judge-quiet _ 2 (regionRules (begin r) room) _ (regular-regions (begin r) room R h) (timer-other (begin r) v) e
-core-never r room (propose x) R h e = judge-quiet _ 2 (regionRules (begin r) room) _ (regular-regions (begin r) room R h) (propose-other (begin r) x) e
+core-never r room (propose x) R h e = judge-quiet _ 2 (regionRules (begin r) room) _ (regular-regions (begin r) room R h) (propose-other (begin r) byList x) e
 
-pub never-two : (r : Replica) (output : List ℕ) (c : Call) → RegularReplica r → outputLength ≤ length output → callOn r output c .reply ≡ refuses 2 → ⊥
+pub never-two : (r : Replica) (output : List ℕ) (c : Call) → RegularReplica r → outputLength ≤ length output → callOn byList r output c .reply ≡ refuses 2 → ⊥
 never-two r output c R h e =
     core-never r (length output) c R h (reply-refuses r output (coreOf r (length output) c) 2 (sym (ap (λ (o : Outcome). o .reply) (call-is r output c)) ∙ e))
 
@@ -96,25 +97,28 @@ short-core r room (receive bytes) R h = short-judge _ (begin r) room _ R h
 short-core r room (timer v) R h = short-judge _ (begin r) room _ R h
 short-core r room (propose x) R h = short-judge _ (begin r) room _ R h
 
-pub short-two : (r : Replica) (output : List ℕ) (c : Call) → RegularReplica r → length output < outputLength → callOn r output c .reply ≡ refuses 2
+pub short-two : (r : Replica) (output : List ℕ) (c : Call) → RegularReplica r → length output < outputLength → callOn byList r output c .reply ≡ refuses 2
 unfolding outcome
 short-two r output c R h = ap (λ (o : Outcome). o .reply) (call-is r output c) ∙ ap (λ (a : Answer Work). outcome r output a .reply) (short-core r (length output) c R h)
 
 -- ---- what an accepted opening and calls left, whatever the regions that it was opened over
-module _ (r : Replica) (f c k n own size : ℕ) (b : IsBytes (r .memory)) (t : All BlockTyped (r .store)) (opened : openingCall r f c k n own .reply ≡ accepts size) where
-  pub run-regular : (ts : List Handing) → All HandingTyped ts → RegularReplica (after (left (openingCall r f c k n own)) ts)
-  run-regular ts h = calls-keep _ ts h (opening-accepted r f c k n own size b t opened .regular)
+module _ (r : Replica) (f c k n own : ℕ) (leaders : List ℕ) (size : ℕ) (b : IsBytes (r .memory)) (t : All BlockTyped (r .store)) (opened : openingCall r f c k n own leaders .reply ≡ accepts size) where
+  pub run-regular : (ts : List Handing) → All HandingTyped ts → RegularReplica (after byList (left (openingCall r f c k n own leaders)) ts)
+  run-regular ts h = calls-keep _ ts h (opening-accepted r f c k n own leaders size b t opened .regular)
 
-  pub run-passes : (ts : List Handing) → All HandingTyped ts → Passes (after (left (openingCall r f c k n own)) ts)
+  pub run-passes : (ts : List Handing) → All HandingTyped ts → Passes (after byList (left (openingCall r f c k n own leaders)) ts)
   run-passes ts h = regular-passes _ (run-regular ts h)
 
   pub run-never-two : (ts : List Handing) → All HandingTyped ts → (output : List ℕ) (x : Call) → outputLength ≤ length output
-      → callOn (after (left (openingCall r f c k n own)) ts) output x .reply ≡ refuses 2 → ⊥
+      → callOn byList (after byList (left (openingCall r f c k n own leaders)) ts) output x .reply ≡ refuses 2 → ⊥
   run-never-two ts h output x = never-two _ output x (run-regular ts h)
 
-  -- it keeps the settings and the own number that it was opened with
-  pub run-settings : (ts : List Handing) → All HandingTyped ts → settingsOf (after (left (openingCall r f c k n own)) ts .memory) ≡ record { f = f; c = c; k = k }
-  run-settings ts h = let o = opening-accepted r f c k n own size b t opened in calls-same _ ts h (o .regular) .settings ∙ o .settings
+  -- it keeps the settings, the own number and the leader list that it was opened with
+  pub run-settings : (ts : List Handing) → All HandingTyped ts → settingsOf (after byList (left (openingCall r f c k n own leaders)) ts .memory) ≡ record { f = f; c = c; k = k }
+  run-settings ts h = let o = opening-accepted r f c k n own leaders size b t opened in calls-same _ ts h (o .regular) .settings ∙ o .settings
 
-  pub run-own : (ts : List Handing) → All HandingTyped ts → ownOf (after (left (openingCall r f c k n own)) ts .memory) ≡ own
-  run-own ts h = let o = opening-accepted r f c k n own size b t opened in calls-same _ ts h (o .regular) .own ∙ o .own-number
+  pub run-own : (ts : List Handing) → All HandingTyped ts → ownOf (after byList (left (openingCall r f c k n own leaders)) ts .memory) ≡ own
+  run-own ts h = let o = opening-accepted r f c k n own leaders size b t opened in calls-same _ ts h (o .regular) .own ∙ o .own-number
+
+  pub run-leaders : (ts : List Handing) → All HandingTyped ts → leadersOf (after byList (left (openingCall r f c k n own leaders)) ts .memory) ≡ leaders
+  run-leaders ts h = let o = opening-accepted r f c k n own leaders size b t opened in calls-same _ ts h (o .regular) .leaders ∙ o .leader-list

@@ -9,19 +9,19 @@ use borrow.Author.Tests.{leb-true, ltb-true, eqb-true, le-leb, lt-ltb, eq-eqb}
 use lib.Dec.{eqb, leb}
 use lib.ListN.{length, drop, set, length-set, length-take, length-drop}
 use Rattle.settings.specs.Quorum.{largest, lastView}
-use Rattle.settings.specs.Opening.{inBound}
+use Rattle.settings.specs.Opening.{inBound, mostLeaders}
 use Rattle.codec.specs.Bytes.{IsBytes, part}
 use Rattle.codec.proofs.Order.{and-true}
 use Rattle.wire.specs.Fields.{kindOf, countOf, viewOf, blockCertificateLength, timeoutsHead, timeoutLength}
 use Rattle.certificate.specs.declared.Certificate.{Certificate}
 use Rattle.blocks.specs.declared.Block.{Block}
-use Rattle.memory.specs.Layout.{memoryLength, entryRoom, entryPlace, blockCountOf, entryOf, entryLengthOf, settingsOf, ownOf, withBlockCount, withEntry}
+use Rattle.memory.specs.Layout.{memoryLength, entryRoom, entryPlace, blockCountOf, entryOf, entryLengthOf, leaderCountOf, settingsOf, ownOf, withBlockCount, withEntry}
 use Rattle.memory.specs.Kept.{keep}
 use Rattle.memory.specs.Window.{entered}
 use Rattle.memory.proofs.Apart.{Table, rowOf, widthOf}
 use Rattle.memory.proofs.Keeping.{length-keep, bytes-keep}
 use Rattle.memory.proofs.Entering.{length-entered, bytes-entered, entered-head}
-use Rattle.memory.proofs.Header.{SameHeader, same-header, keep-head, length-with-count, bytes-with-count, count-put, count-settings, count-own, count-entry, length-with-entry, bytes-with-entry, entry-settings, entry-own, entry-block-count, entry-put}
+use Rattle.memory.proofs.Header.{SameHeader, same-header, SameLeaders, leaders-refl, leaders-trans, keep-head, length-with-count, bytes-with-count, count-put, count-settings, count-own, count-leaders, count-entry, length-with-entry, bytes-with-entry, entry-settings, entry-own, entry-leaders, entry-block-count, entry-put}
 use Rattle.counters.specs.declared.Counters.{Counters}
 use Rattle.counters.specs.Counters.{adopting, withLocks, entering}
 use Rattle.protocol.specs.Work.{Work, view, settings, n, own, viewNow, heldBlock, withCounters, withMemory, send, adopt, enterBy, hold}
@@ -47,11 +47,14 @@ pub record Regular (W : Work) : Type 0 where
   pub view-last : viewNow W ≤ lastView
   pub room : blockCountOf (W .memory) ≤ storeLength
   pub entry : EntryForm (n W) (entryOf (W .memory))
+  pub leaders-some : 1 ≤ leaderCountOf (W .memory)
+  pub leaders-most : leaderCountOf (W .memory) ≤ mostLeaders
 
--- what every action leaves: settings and own number, and the lengths of the regions
+-- what every action leaves: settings, own number and leader list, and the lengths of the regions
 pub record Still (W W′ : Work) : Type 0 where
   pub settings : settingsOf (W′ .memory) ≡ settingsOf (W .memory)
   pub own : ownOf (W′ .memory) ≡ ownOf (W .memory)
+  pub leaders : SameLeaders (W .memory) (W′ .memory)
   pub memory : length (W′ .memory) ≡ length (W .memory)
   pub store : length (W′ .store) ≡ length (W .store)
 
@@ -62,11 +65,17 @@ pub record ProgressForm (n : ℕ) (r : List ℕ) : Type 0 where
   pub view : viewOf r < lastView
 
 pub still-refl : (W : Work) → Still W W
-still-refl W = record { settings = refl; own = refl; memory = refl; store = refl }
+still-refl W = record { settings = refl; own = refl; leaders = leaders-refl (W .memory); memory = refl; store = refl }
 
 pub still-trans : (W W₁ W₂ : Work) → Still W W₁ → Still W₁ W₂ → Still W W₂
 still-trans W W₁ W₂ a b =
-    record { settings = b .settings ∙ a .settings; own = b .own ∙ a .own; memory = b .memory ∙ a .memory; store = b .store ∙ a .store }
+    record {
+      settings = b .settings ∙ a .settings;
+      own = b .own ∙ a .own;
+      leaders = leaders-trans (W .memory) (W₁ .memory) (W₂ .memory) (a .leaders) (b .leaders);
+      memory = b .memory ∙ a .memory;
+      store = b .store ∙ a .store;
+    }
 
 -- ---- the entry certificate has room
 pub form-room : (n : ℕ) (r : List ℕ) → n ≤ largest → EntryForm n r → length r ≤ entryRoom
@@ -96,7 +105,8 @@ rules-entry W e = go (eqb (kindOf r) 3) refl e
 pub regular-rules : (W : Work) → Regular W → regular W ≡ true
 unfolding regular
 regular-rules W R =
-    rw (le-leb _ _ (R .few), R .bound, lt-ltb _ _ (R .member), le-leb _ _ (R .view-first), le-leb _ _ (R .view-last), le-leb _ _ (R .room)) (entry-rules W (R .entry))
+    rw (le-leb _ _ (R .few), R .bound, lt-ltb _ _ (R .member), le-leb _ _ (R .view-first), le-leb _ _ (R .view-last), le-leb _ _ (R .room), entry-rules W (R .entry), le-leb _ _ (R .leaders-some))
+    (le-leb _ _ (R .leaders-most))
 
 pub rules-regular : (W : Work) → Typed W → memoryLength ≤ length (W .memory) → storeLength ≤ length (W .store) → regular W ≡ true → Regular W
 unfolding regular
@@ -107,6 +117,8 @@ rules-regular W t m s e =
     let d = and-true _ _ (c .1) in
     let f = and-true _ _ (d .1) in
     let g = and-true _ _ (f .1) in
+    let h = and-true _ _ (g .1) in
+    let l = and-true _ _ (h .1) in
     record {
       typed = t;
       memory-long = m;
@@ -117,7 +129,9 @@ rules-regular W t m s e =
       view-first = leb-true _ _ (d .0);
       view-last = leb-true _ _ (f .0);
       room = leb-true _ _ (g .0);
-      entry = rules-entry W (g .1);
+      entry = rules-entry W (h .0);
+      leaders-some = leb-true _ _ (l .0);
+      leaders-most = leb-true _ _ (l .1);
     }
 
 -- ---- a state after another: what has to be shown
@@ -135,6 +149,8 @@ regular-after W W′ R s t a b c e =
       view-last = b;
       room = c;
       entry = rw (s .settings) e;
+      leaders-some = rw (s .leaders .count) (R .leaders-some);
+      leaders-most = rw (s .leaders .count) (R .leaders-most);
     }
 
 -- ---- the actions
@@ -145,7 +161,7 @@ entry-length m h l = omega (arith, h, length-take (entryLengthOf m) (drop entryP
 -- another memory with the same fields in its head
 same-regular : (W : Work) (m : List ℕ) → IsBytes m → length m ≡ length (W .memory) → SameHeader (W .memory) m → Regular W → Regular (withMemory W m) × Still W (withMemory W m)
 same-regular W m b l h R =
-    let s : Still W (withMemory W m) = record { settings = h .settings; own = h .own; memory = l; store = refl } in
+    let s : Still W (withMemory W m) = record { settings = h .settings; own = h .own; leaders = h .leaders; memory = l; store = refl } in
     let e : entryOf m ≡ entryOf (W .memory) = h .entry (entry-length (W .memory) (form-room (n W) _ (R .few) (R .entry)) (R .memory-long)) in (
       regular-after W (withMemory W m) R s (record { counters = R .typed .counters; memory = b; store = R .typed .store }) (R .view-first) (R .view-last)
           (rw (h .blockCount) (R .room)) (rw e (R .entry)),
@@ -160,12 +176,12 @@ keep-regular W t v i e h l b R =
 
 pub counters-regular : (W : Work) (c : Counters) → CountersTyped c → 1 ≤ c .view .0 → c .view .0 ≤ lastView → Regular W → Regular (withCounters W c)
 counters-regular W c t a b R =
-    regular-after W (withCounters W c) R (record { settings = refl; own = refl; memory = refl; store = refl })
+    regular-after W (withCounters W c) R (record { settings = refl; own = refl; leaders = leaders-refl (W .memory); memory = refl; store = refl })
     (record { counters = t; memory = R .typed .memory; store = R .typed .store }) a b (R .room) (R .entry)
 
 pub send-regular : (W : Work) (r : List ℕ) → Regular W → Regular (send W r)
 send-regular W r R =
-    regular-after W (send W r) R (record { settings = refl; own = refl; memory = refl; store = refl })
+    regular-after W (send W r) R (record { settings = refl; own = refl; leaders = leaders-refl (W .memory); memory = refl; store = refl })
     (record { counters = R .typed .counters; memory = R .typed .memory; store = R .typed .store }) (R .view-first) (R .view-last) (R .room) (R .entry)
 
 -- adopting leaves the view
@@ -179,7 +195,7 @@ adopt-regular W k t R = counters-regular W (adopting (W .counters) k) (adopting-
 
 pub adopt-still : (W : Work) (k : Certificate) → Still W (adopt W k)
 unfolding adopt
-adopt-still W k = record { settings = refl; own = refl; memory = refl; store = refl }
+adopt-still W k = record { settings = refl; own = refl; leaders = leaders-refl (W .memory); memory = refl; store = refl }
 
 entering-typed : (c : Counters) (v : ℕ) → v ≤ lastView → CountersTyped c → CountersTyped (entering c (view v))
 unfolding entering
@@ -195,7 +211,13 @@ enter-regular W v r a b br f R =
     let long : memoryLength ≤ length w = omega (arith, lw, R .memory-long) in
     let put : entryOf (withEntry w r) ≡ r = entry-put w r (form-room (n W) r (R .few) f) long in
     let s : Still W (enterBy W v r) =
-    record { settings = entry-settings w r ∙ h .settings; own = entry-own w r ∙ h .own; memory = length-with-entry w r ∙ lw; store = refl } in (
+    record {
+      settings = entry-settings w r ∙ h .settings;
+      own = entry-own w r ∙ h .own;
+      leaders = leaders-trans m w (withEntry w r) (h .leaders) (entry-leaders w r);
+      memory = length-with-entry w r ∙ lw;
+      store = refl;
+    } in (
       regular-after W (enterBy W v r) R s
           (record {
             counters = entering-typed (W .counters) v b (R .typed .counters);
@@ -228,6 +250,7 @@ hold-regular W b t free R = go (heldBlock W (b .name) .is) refl
         record {
           settings = count-settings (W .memory) (k + 1);
           own = count-own (W .memory) (k + 1);
+          leaders = count-leaders (W .memory) (k + 1);
           memory = length-with-count (W .memory) (k + 1);
           store = length-set (W .store) k b;
         } in (

@@ -20,6 +20,7 @@ use Rattle.safety.specs.Cluster.{HighVoted}
 use Rattle.blocks.specs.declared.Block.{Block}
 use Rattle.blocks.specs.Store.{descends}
 use Rattle.blocks.proofs.Linked.{In}
+use Rattle.memory.specs.Leaders.{byList}
 use Rattle.protocol.specs.Work.{Work, n, tip, blocks}
 use Rattle.protocol.specs.Calls.{Replica, begin, Outcome, outcome}
 use Rattle.protocol.specs.OneCall.{Call, CallTyped, callOn, left, Handing, HandingTyped, after}
@@ -97,33 +98,33 @@ module _ (set : Settings) (i : ℕ) where
       }
   single-core l r output c t K (refuses a) e = record { made = []; is = refl; sent = tt; keeping = rw append-nil K }
 
-  pub single-call : (l : List (List ℕ)) (r : Replica) (output : List ℕ) (c : Call) → CallTyped c → ReplicaInvariant set single-history i l r → Wrote l (callOn r output c)
+  pub single-call : (l : List (List ℕ)) (r : Replica) (output : List ℕ) (c : Call) → CallTyped c → ReplicaInvariant set single-history i l r → Wrote l (callOn byList r output c)
   single-call l r output c t K = subst (Wrote l) (sym (call-is r output c)) (single-core l r output c t K (coreOf r (length output) c) refl)
 
   -- a list of calls
-  pub single-calls : (l : List (List ℕ)) (r : Replica) (ts : List Handing) → All HandingTyped ts → ReplicaInvariant set single-history i l r → (m : List (List ℕ)) × ReplicaInvariant set single-history i m (after r ts)
+  pub single-calls : (l : List (List ℕ)) (r : Replica) (ts : List Handing) → All HandingTyped ts → ReplicaInvariant set single-history i l r → (m : List (List ℕ)) × ReplicaInvariant set single-history i m (after byList r ts)
   unfolding All after
   single-calls l r [] h K = (l, K)
   single-calls l r (t ∷ ts) h K =
       let W = single-call l r (t .output) (t .call) (h .0) K in
-      single-calls (l ++ W .made) (left (callOn r (t .output) (t .call))) ts (h .1) (W .keeping)
+      single-calls (l ++ W .made) (left (callOn byList r (t .output) (t .call))) ts (h .1) (W .keeping)
 
   -- WHAT HOLDS OF A REPLICA that was opened as number i, on any list of calls
-  pub always : (r : Replica) → Opened set i r → (ts : List Handing) → All HandingTyped ts → (m : List (List ℕ)) × ReplicaInvariant set single-history i m (after r ts)
-  always r O ts h = single-calls [] r ts h (opening-establishes set single-history i r O)
+  pub always : (leaders : List ℕ) (r : Replica) → Opened set leaders i r → (ts : List Handing) → All HandingTyped ts → (m : List (List ℕ)) × ReplicaInvariant set single-history i m (after byList r ts)
+  always leaders r O ts h = single-calls [] r ts h (opening-establishes set leaders single-history i r O)
 
   -- so rule D's test that a held block leads to the tip always passes: what is held and isn't the tip descends from it
-  pub always-leads : (r : Replica) → Opened set i r → (ts : List Handing) → All HandingTyped ts → (b : Block) → In b (blocks (begin (after r ts)))
-      → descends (tip (begin (after r ts))) (blocks (begin (after r ts))) b ≡ true
-  always-leads r O ts h b p =
-      let K = always r O ts h in
-      let W = begin (after r ts) in
+  pub always-leads : (leaders : List ℕ) (r : Replica) → Opened set leaders i r → (ts : List Handing) → All HandingTyped ts → (b : Block) → In b (blocks (begin (after byList r ts)))
+      → descends (tip (begin (after byList r ts))) (blocks (begin (after byList r ts))) b ≡ true
+  always-leads leaders r O ts h b p =
+      let K = always leaders r O ts h in
+      let W = begin (after byList r ts) in
       stored-descends set single-history (K .0) (tip W) (blocks W) (K .1 .chained) b p
 
   -- WHAT A CALL WRITES: whole records one after another
-  pub writes-whole : (r : Replica) → Opened set i r → (ts : List Handing) → All HandingTyped ts → (output : List ℕ) (c : Call) → CallTyped c
-      → (l : List (List ℕ)) × (written (callOn (after r ts) output c) ≡ joined l) × All (WholeRecord (replicas set)) l
-  writes-whole r O ts h output c t =
-      let K = always r O ts h in
-      let W = single-call (K .0) (after r ts) output c t (K .1) in
+  pub writes-whole : (leaders : List ℕ) (r : Replica) → Opened set leaders i r → (ts : List Handing) → All HandingTyped ts → (output : List ℕ) (c : Call) → CallTyped c
+      → (l : List (List ℕ)) × (written (callOn byList (after byList r ts) output c) ≡ joined l) × All (WholeRecord (replicas set)) l
+  writes-whole leaders r O ts h output c t =
+      let K = always leaders r O ts h in
+      let W = single-call (K .0) (after byList r ts) output c t (K .1) in
       (W .made, W .is, all-impl _ _ (W .made) (λ q s. whole (replicas set) q s) (W .sent))

@@ -16,6 +16,7 @@ use Rattle.wire.specs.Fit.{All}
 use Rattle.wire.proofs.Facts.{Framed, off-judge}
 use Rattle.wire.proofs.ReadBack.{written-read, read-fits, read-proper}
 use Rattle.safety.specs.Cluster.{HighVoted}
+use Rattle.memory.specs.Leaders.{byList}
 use Rattle.protocol.specs.Work.{Work, n, viewNow}
 use Rattle.protocol.specs.Refusals.{regionRules, refusals}
 use Rattle.protocol.specs.Events.{onRecord, onTimer, onPropose}
@@ -77,7 +78,7 @@ module _ (set : Settings) (w : History) (H : HighVoted (R set w)) (i : ℕ) (l�
       let W₀ = begin r in
       let j = off-judge _ _ W .0 e in
       let p = quiet-append (regionRules W₀ room) _ (j .0) in
-      let q = quiet-append (shapeRules (n W₀) b) (refusals W₀ b (content b)) (p .1) in
+      let q = quiet-append (shapeRules (n W₀) b) (refusals W₀ byList b (content b)) (p .1) in
       let ok : shapeOf (n W₀) b ≡ accepts tt = off-judge (shapeRules (n W₀) b) tt tt .1 (q .0, refl) in
       settled (onRecord b (content b) W₀) (record-done W₀ b t (q .0) (q .1) typed-regular .regular)
       (by-kind set w H i l₀ W₀ begin-sound b t (content b) refl (written-read (n W₀) b t ok) (read-fits (n W₀) b t ok) (read-proper (n W₀) b t ok) (q .1) s g) W (j .1)

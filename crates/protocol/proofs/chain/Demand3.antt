@@ -26,6 +26,7 @@ use Rattle.safety.proofs.Rank.{needed-honest}
 use Rattle.safety.proofs.Safety.{some-honest}
 use Rattle.safety.proofs.Run.{honest-high, run-lawful, in-tag, in-own, in-log, by-replica, row-linked, one-chain, one-length}
 use Rattle.safety.proofs.Match.{traced}
+use Rattle.memory.specs.Leaders.{byList}
 use Rattle.protocol.specs.Work.{Work, n}
 use Rattle.protocol.specs.Refusals.{regionRules, refusals}
 use Rattle.protocol.specs.Calls.{Replica, begin, recordCore, openingCall, Outcome, outcome}
@@ -86,7 +87,7 @@ core-named s room (receive r) W t e b p z =
     let W₀ = begin s in
     let j = off-judge _ _ W .0 e in
     let k = quiet-append (regionRules W₀ room) _ (j .0) in
-    let q = quiet-append (shapeRules (n W₀) r) (refusals W₀ r (content r)) (k .1) in
+    let q = quiet-append (shapeRules (n W₀) r) (refusals W₀ byList r (content r)) (k .1) in
     let ok : shapeOf (n W₀) r ≡ accepts tt = off-judge (shapeRules (n W₀) r) tt tt .1 (q .0, refl) in
     proper-named (n W₀) (content r) (read-proper (n W₀) r t ok) b p z
 core-named s room (timer v) W t e b p z = p
@@ -99,7 +100,7 @@ core-cases s output c t l b k (accepts W) e p z = ⊎-elim (λ q. core-named s (
 core-cases s output c t l b k (refuses a) e p z = p
 
 call-named : (s : Replica) (output : List ℕ) (c : Call) → CallTyped c → (l : List Placement) (b : Placement) → (In b l → ⊥)
-    → In b (cond (accepted (callOn s output c .reply)) (stepGives (calls c) ++ l) []) → b .name ≡ zeroName → ⊥
+    → In b (cond (accepted (callOn byList s output c .reply)) (stepGives (calls c) ++ l) []) → b .name ≡ zeroName → ⊥
 call-named s output c t l b k p z =
     go (coreOf s (length output) c) refl (subst (λ (o : Outcome). In b (cond (accepted (o .reply)) (stepGives (calls c) ++ l) [])) (call-is s output c) p)
   where
@@ -116,9 +117,9 @@ unfolding gives outcomeOf
 step-named s e t {m} f b p z = go (e .step) t (λ q. all-named m (makes s e) f b q z) p
   where
     go : (st : Step) → StepTyped st → (In b (recordsGive (makes s e)) → ⊥)
-        → (let o : Outcome = elim st [ calls c ↦ callOn s (e .output) c | reopens f c k m own ↦ openingCall s f c k m own ] in In b (cond (accepted (o .reply)) (stepGives st ++ recordsGive (makes s e)) [])) → ⊥
+        → (let o : Outcome = elim st [ calls c ↦ callOn byList s (e .output) c | reopens f c k m own leaders ↦ openingCall s f c k m own leaders ] in In b (cond (accepted (o .reply)) (stepGives st ++ recordsGive (makes s e)) [])) → ⊥
     go (calls c) t k p = call-named s (e .output) c t (recordsGive (makes s e)) b k p z
-    go (reopens f c k′ m own) t k p = open-named (accepted (openingCall s f c k′ m own .reply)) (recordsGive (makes s e)) b k p
+    go (reopens f c k′ m own leaders) t k p = open-named (accepted (openingCall s f c k′ m own leaders .reply)) (recordsGive (makes s e)) b k p
 
 module _ (set : Settings) (honest : ℕ → Bool) (σ : ℕ → Replica) (run : List (ℕ × Entry)) where
   abbrev F : Log replicaMachine
@@ -164,7 +165,7 @@ module _ (set : Settings) (honest : ℕ → Bool) (σ : ℕ → Replica) (run : 
   pub full-high : HighVoted (R set full-history)
   full-high i b h t q m = tt
 
-  module _ (P : Premises set honest σ run) where
+  module _ (leaders : List ℕ) (P : Premises set honest σ run leaders) where
     at-end : (i : ℕ) (s : Replica) → ReplicaInvariant set run-history i (made replicaMachine σ run i) s → AtEnd replicaMachine set honest reads (λ b. b .name) (λ b. b .parent) σ run zeroName i
     unfolding traced
     at-end i s X =
@@ -179,11 +180,11 @@ module _ (set : Settings) (honest : ℕ → Bool) (σ : ℕ → Replica) (run : 
     pub keeps : Keeps replicaMachine set honest reads (λ b. b .name) (λ b. b .parent) σ run zeroName
     keeps = record {
       Own = ReplicaInvariant set full-history;
-      own-open = λ i t. opening-establishes set full-history i (σ i) (P .opened i t);
+      own-open = λ i t. opening-establishes set leaders full-history i (σ i) (P .opened i t);
       own-step = call-keeps set full-history full-high F B act-in-full (λ b q. tt);
       own-end = λ i b h s X. traced replicaMachine set honest reads (λ b. b .name) (λ b. b .parent) σ run i (X .acted .acts) _ (X .acted .matches) (X .acted .trace);
       Backed = ReplicaInvariant set run-history;
-      backed-open = λ i t. opening-establishes set run-history i (σ i) (P .opened i t);
+      backed-open = λ i t. opening-establishes set leaders run-history i (σ i) (P .opened i t);
       backed-step = λ H. call-keeps set run-history H F B act-in-run (λ b q. q);
       backed-end = λ i b h s X. at-end i s X;
     }
@@ -244,4 +245,4 @@ module _ (set : Settings) (honest : ℕ → Bool) (σ : ℕ → Replica) (run : 
 
 -- THE THEOREM
 pub demand-3 : Demand3
-demand-3 set honest σ run P = chain set honest σ run P
+demand-3 set leaders honest σ run P = chain set honest σ run leaders P

@@ -26,7 +26,7 @@ use Rattle.certificate.specs.Good.{isGood, timeoutGood, progressGood}
 use Rattle.blocks.specs.declared.Block.{Block}
 use Rattle.memory.specs.Layout.{blockCountOf}
 use Rattle.safety.specs.Cluster.{HighVoted}
-use Rattle.safety.specs.Trace as Trace
+use Rattle.memory.specs.Leaders.{byList}
 use Rattle.protocol.specs.Work.{Work, settings, n, viewNow, tip, blocks, heldBlock}
 use Rattle.protocol.specs.Typed.{BlockTyped}
 use Rattle.protocol.specs.Refusals.{storeLength, viewOfProgress, misplaced, noRoom, safeName, child, refusals}
@@ -106,7 +106,7 @@ module _ (set : Settings) (w : History) (H : HighVoted (R set w)) (i : ℕ) (l�
     inner-is j v x y h k f is = ap progressOf (sym is) ∙ stands-encode (proposal j v x y h k) f .rest
 
     proposed : (j v : ℕ) (x y : Name) (h : ℕ) (k : Certificate) → encode (proposal j v x y h k) ≡ r → Fits (proposal j v x y h k) → Proper (n W) (proposal j v x y h k)
-        → Quiet (refusals W r (proposal j v x y h k)) → Says w (recordSays (n W) r (proposal j v x y h k)) → All (w .Placed) (recordGives (proposal j v x y h k))
+        → Quiet (refusals W byList r (proposal j v x y h k)) → Says w (recordSays (n W) r (proposal j v x y h k)) → All (w .Placed) (recordGives (proposal j v x y h k))
         → Snd (propositionOf v (child W x y h) (progressOf r) W)
     unfolding refusals Fits Proper All
     proposed j v x y h k is f p t s b =
@@ -125,7 +125,7 @@ module _ (set : Settings) (w : History) (H : HighVoted (R set w)) (i : ℕ) (l�
         (λ a. rw back (parent ∙ ap (λ (z : Settings). safeCertificate z k .name) (set-is a)))
         (λ new a. room-is x (t .1 .1 .1 .1 .1 .1 .1 .1 .0) new a) (λ a. placed (child W x y h) (place .1))
 
-    pub by-kind : (q : Content) → content r ≡ q → encode q ≡ r → Fits q → Proper (n W) q → Quiet (refusals W r q) → Says w (recordSays (n W) r q) → All (w .Placed) (recordGives q)
+    pub by-kind : (q : Content) → content r ≡ q → encode q ≡ r → Fits q → Proper (n W) q → Quiet (refusals W byList r q) → Says w (recordSays (n W) r q) → All (w .Placed) (recordGives q)
         → Snd (onRecord r q W)
     unfolding refusals onRecord Fits Proper encode
     by-kind (vote j v x) e is f p t s b =

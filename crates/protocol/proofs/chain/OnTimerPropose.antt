@@ -22,12 +22,11 @@ use Rattle.wire.proofs.Contents.{certificate-back}
 use Rattle.certificate.specs.Safe.{safeCertificate}
 use Rattle.blocks.specs.declared.Block.{Block}
 use Rattle.memory.specs.Layout.{entryPlace, entryLengthOf, blockCountOf, entryOf}
-use Rattle.memory.specs.Window.{leaderOf}
+use Rattle.memory.specs.Leaders.{byList}
 use Rattle.safety.specs.Rank.{Cert}
 use Rattle.safety.specs.Cluster.{Good, HighVoted, Progress}
 use Rattle.safety.specs.Certificates.{cert}
 use Rattle.safety.specs.Run.{is-other}
-use Rattle.safety.specs.Trace as Trace
 use Rattle.protocol.specs.Work.{Work, settings, n, own, viewNow, timed, highView, tip, blocks, heldBlock, send}
 use Rattle.protocol.specs.Typed.{BlockTyped}
 use Rattle.protocol.specs.Refusals.{viewOfProgress, storeLength, timerRules, nextBlock, proposeRules}
@@ -87,7 +86,7 @@ module _ (set : Settings) (w : History) (H : HighVoted (R set w)) (i : ℕ) (l�
       progress-le u c (inl p) = omega (arith, p .0)
       progress-le u c (inr p) = p .safe-le
 
-  module _ (x : Name) (W : Work) (reg : Regular W) (S : Snd W) (name : IsName x) (t : Quiet (proposeRules W x)) where
+  module _ (x : Name) (W : Work) (reg : Regular W) (S : Snd W) (name : IsName x) (t : Quiet (proposeRules W byList x)) where
     abbrev b : Block
     b = nextBlock W x
 
@@ -115,7 +114,7 @@ module _ (set : Settings) (w : History) (H : HighVoted (R set w)) (i : ℕ) (l�
     turn : ((eqb (highView W) v || leb lastView v) ≡ false) × (leb v (timed W) ≡ false)
     unfolding proposeRules
     turn =
-        let p = or-false (not (eqb (leaderOf (settings W) v) (own W))) _ (t .0) in
+        let p = or-false (not (eqb (byList (W .memory) v) (own W))) _ (t .0) in
         let k = or-false (leb v (timed W)) _ (p .1) in
         (k .1, k .0)
 

@@ -31,6 +31,7 @@ use Rattle.safety.specs.Rows.{none}
 use Rattle.safety.specs.Match.{start}
 use Rattle.safety.specs.Trace as Trace
 use Rattle.safety.specs.Run.{StepKeeps, Log}
+use Rattle.memory.specs.Leaders.{byList}
 use Rattle.protocol.specs.Work.{Work, n, viewNow, blocks}
 use Rattle.protocol.specs.Typed.{BlockTyped}
 use Rattle.protocol.specs.Refusals.{storeLength}
@@ -126,30 +127,30 @@ module _ (set : Settings) (w : History) (H : HighVoted (R set w)) (F : Log repli
     not-opened st (accepts W) e = absurd (true≢false e)
     not-opened st (refuses a) e = refused-goal st [] a
 
-    call-goal : (c : Call) (output : List ℕ) → CallTyped c → Goal (calls c) (callOn s output c)
+    call-goal : (c : Call) (output : List ℕ) → CallTyped c → Goal (calls c) (callOn byList s output c)
     call-goal c output t = subst (Goal (calls c)) (sym (call-is s output c)) (go (coreOf s (length output) c) refl)
       where
         go : (core : Answer Work) → coreOf s (length output) c ≡ core → Goal (calls c) (outcome s output core)
         go (accepts W) e = accepted-goal c output W t e
         go (refuses a) e = refused-goal (calls c) output a
 
-    open-goal : (f c k m own : ℕ) → accepted (openingCall s f c k m own .reply) ≡ false → Goal (reopens f c k m own) (openingCall s f c k m own)
+    open-goal : (f c k m own : ℕ) (leaders : List ℕ) → accepted (openingCall s f c k m own leaders .reply) ≡ false → Goal (reopens f c k m own leaders) (openingCall s f c k m own leaders)
     unfolding openingCall
-    open-goal f c k m own e = not-opened (reopens f c k m own) (openingCore s f c k m own) e
+    open-goal f c k m own leaders e = not-opened (reopens f c k m own leaders) (openingCore s f c k m own leaders) e
 
   -- EVERY CALL OF A RUN KEEPS THE INVARIANT
   pub call-keeps : StepKeeps replicaMachine (w .honest) F B (ReplicaInvariant set w)
   unfolding outcomeOf makes says gives
   call-keeps i t l s e ok K = go (e .step) (ok .0) (ok .1)
     where
-      go : (st : Step) → StepTyped st → Refused st s → (let o : Outcome = elim st [ calls c ↦ callOn s (e .output) c | reopens f c k m own ↦ openingCall s f c k m own ] in Goal i l s K st o)
+      go : (st : Step) → StepTyped st → Refused st s → (let o : Outcome = elim st [ calls c ↦ callOn byList s (e .output) c | reopens f c k m own leaders ↦ openingCall s f c k m own leaders ] in Goal i l s K st o)
       go (calls c) typed r = call-goal i l s K c (e .output) typed
-      go (reopens f c k m own) typed r = open-goal i l s K f c k m own r
+      go (reopens f c k m own leaders) typed r = open-goal i l s K f c k m own leaders r
 
 -- ---- WHAT AN ACCEPTED OPENING LEAVES
-module _ (set : Settings) (w : History) (i : ℕ) (m : List ℕ) (st : List Block) (o : Openable set i) (bytes : IsBytes m) (typed : All BlockTyped st) (long : memoryLength ≤ length m) (room : storeLength ≤ length st) where
+module _ (set : Settings) (w : History) (i : ℕ) (m : List ℕ) (st : List Block) (leaders : List ℕ) (o : Openable set i leaders) (bytes : IsBytes m) (typed : All BlockTyped st) (long : memoryLength ≤ length m) (room : storeLength ≤ length st) where
   abbrev W₀ : Work
-  W₀ = openedWork m st set i
+  W₀ = openedWork m st set i leaders
 
   genesis-good : (b : Bool) → GoodBelow set w 1 (certificateOf b (record { view = record { 0 = 0 }; name = zeroName; signers = 0 }))
   unfolding certificateOf
@@ -157,10 +158,10 @@ module _ (set : Settings) (w : History) (i : ℕ) (m : List ℕ) (st : List Bloc
 
   -- no row has an entry
   nothing-kept : (P : ℕ → ℕ → List ℕ → Type 0) (t : Table) → HoldsIn (size set w) t P 1 (W₀ .memory)
-  nothing-kept P t v j a l is = absurd (false≢true (sym (opened-none m set i o long t v j) ∙ is))
+  nothing-kept P t v j a l is = absurd (false≢true (sym (opened-none m set i leaders o long t v j) ∙ is))
 
   no-blocks : blocks W₀ ≡ []
-  no-blocks = rw (opened-count m set i o long)
+  no-blocks = rw (opened-count m set i leaders o long)
 
   fits₀ : CertificateFits (byBlock 0 zeroName 0)
   unfolding CertificateFits
@@ -176,7 +177,7 @@ module _ (set : Settings) (w : History) (i : ℕ) (m : List ℕ) (st : List Bloc
 
   entry₀-is : entryOf (W₀ .memory) ≡ certificateBytes (ownOf (W₀ .memory)) (byBlock 0 zeroName 0)
   unfolding certificateBytes
-  entry₀-is = opened-entry m set i o long ∙ ap (λ (j : ℕ). blockCertificateBytes j 0 zeroName 0) (sym (opened-own m set i o long))
+  entry₀-is = opened-entry m set i leaders o long ∙ ap (λ (j : ℕ). blockCertificateBytes j 0 zeroName 0) (sym (opened-own m set i leaders o long))
 
   nothing-named : All (Named set w) []
   unfolding All
@@ -189,9 +190,9 @@ module _ (set : Settings) (w : History) (i : ℕ) (m : List ℕ) (st : List Bloc
   pub opened-invariant : Invariant set w i 1 W₀ []
   unfolding opened
   opened-invariant = record {
-    regular = opened-regular m st set i o bytes typed long room;
-    set-is = opened-settings m set i o long;
-    mine = opened-own m set i o long;
+    regular = opened-regular m st set i leaders o bytes typed long room;
+    set-is = opened-settings m set i leaders o long;
+    mine = opened-own m set i leaders o long;
     sent = nothing-sent;
     acted = record { acts = []; matches = start; trace = Trace.opened refl refl; vote-on = λ v x c p. absurd p; commit-on = λ v x p. absurd p };
     certified = record {
@@ -221,11 +222,11 @@ module _ (set : Settings) (w : History) (i : ℕ) (m : List ℕ) (st : List Bloc
   }
 
 -- the state of an opened replica
-pub opening-establishes : (set : Settings) (w : History) (i : ℕ) (r : Replica) → Opened set i r → ReplicaInvariant set w i [] r
+pub opening-establishes : (set : Settings) (leaders : List ℕ) (w : History) (i : ℕ) (r : Replica) → Opened set leaders i r → ReplicaInvariant set w i [] r
 unfolding opened
-opening-establishes set w i r O =
-    let A = opening-accepts (O .lent) (set .f) (set .c) (set .k) (replicas set) i (O .work) (O .opens) in
-    let X = opened-invariant set w i (O .lent .memory) (O .lent .store) (A .openable) (O .memory) (O .store) (A .memory) (A .store) in
-    let is : r ≡ record { counters = opened; memory = openedWork (O .lent .memory) (O .lent .store) set i .memory; store = O .lent .store } =
+opening-establishes set leaders w i r O =
+    let A = opening-accepts (O .lent) (set .f) (set .c) (set .k) (replicas set) i leaders (O .work) (O .opens) in
+    let X = opened-invariant set w i (O .lent .memory) (O .lent .store) leaders (A .openable) (O .memory) (O .store) (A .memory) (A .store) in
+    let is : r ≡ record { counters = opened; memory = openedWork (O .lent .memory) (O .lent .store) set i leaders .memory; store = O .lent .store } =
     O .leaves ∙ ap (λ (W : Work). let s : Replica = record { counters = W .counters; memory = W .memory; store = W .store } in s) (A .left) in
     subst (ReplicaInvariant set w i []) (sym is) X

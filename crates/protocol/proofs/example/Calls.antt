@@ -17,8 +17,9 @@ use Rattle.wire.proofs.ReadBack.{read-written}
 use Rattle.wire.proofs.Accepted.{quiet-stands}
 use Rattle.wire.proofs.Facts.{Quiet, Framed, off-judge}
 use Rattle.blocks.specs.declared.Block.{Block}
-use Rattle.memory.specs.Layout.{settingsOf, ownOf, blockCountOf}
+use Rattle.memory.specs.Layout.{settingsOf, ownOf, blockCountOf, leadersOf}
 use Rattle.counters.specs.declared.Counters.{Counters}
+use Rattle.memory.specs.Leaders.{byList}
 use Rattle.protocol.specs.Work.{Work, n}
 use Rattle.protocol.specs.Refusals.{outputLength, regionRules, refusals}
 use Rattle.protocol.specs.Events.{onRecord}
@@ -26,7 +27,7 @@ use Rattle.protocol.specs.Applies.{Turns, Done}
 use Rattle.protocol.specs.Calls.{Replica, begin, recordCore, Outcome, outcome, recordCall}
 use Rattle.protocol.specs.OneCall.{left}
 use Rattle.protocol.specs.OneChain.{outcomeOf, accepted, written, cutRecords, makes}
-use Rattle.protocol.specs.Example.{six, lentOutput, blockName, handed}
+use Rattle.protocol.specs.Example.{six, lentOutput, blockName, handed, leaders}
 use Rattle.protocol.proofs.call.Proposals as Proposals
 use Rattle.protocol.proofs.call.Events.{eventRoom, record-done}
 use Rattle.protocol.proofs.call.OneCall.{RegularReplica, regular-regions}
@@ -51,7 +52,7 @@ pub record Took (r : Replica) (bytes : List ℕ) (made : List (List ℕ)) (s : R
 abbrev pub replicaOf : Work → Replica
 replicaOf W = record { counters = W .counters; memory = W .memory; store = W .store }
 
-took : (r : Replica) (bytes : List ℕ) (made : List (List ℕ)) (W : Work) → recordCore r (length lentOutput) bytes ≡ accepts W → All Framed made → W .out ≡ joined made → Took r bytes made (replicaOf W)
+took : (r : Replica) (bytes : List ℕ) (made : List (List ℕ)) (W : Work) → recordCore byList r (length lentOutput) bytes ≡ accepts W → All Framed made → W .out ≡ joined made → Took r bytes made (replicaOf W)
 unfolding outcomeOf recordCall outcome written makes
 took r bytes made W e f o =
     let whole : take (length (W .out)) (W .out ++ drop (length (W .out)) lentOutput) ≡ W .out = take-append-seam (W .out) (drop (length (W .out)) lentOutput) in
@@ -64,7 +65,7 @@ took r bytes made W e f o =
     }
 
 -- ---- a record that fits, that is as the place "shape" asks, and that no rule refuses
-module _ (r : Replica) (R : RegularReplica r) (c : Content) (f : Fits c) (p : Proper (n (begin r)) c) (q : Quiet (refusals (begin r) (encode c) c)) where
+module _ (r : Replica) (R : RegularReplica r) (c : Content) (f : Fits c) (p : Proper (n (begin r)) c) (q : Quiet (refusals (begin r) byList (encode c) c)) where
   shaped : Quiet (shapeRules (n (begin r)) (encode c))
   shaped = quiet-stands (n (begin r)) (encode c) c f p (stands-encode c f)
 
@@ -78,7 +79,7 @@ module _ (r : Replica) (R : RegularReplica r) (c : Content) (f : Fits c) (p : Pr
       took r (encode c) made W
       (rw (read-written c f)
       (off-judge _ _ W .1 (
-        quiet-join (regionRules (begin r) (length lentOutput)) _ (regular-regions (begin r) (length lentOutput) R long-enough) (quiet-join (shapeRules (n (begin r)) (encode c)) (refusals (begin r) (encode c) c) shaped q),
+        quiet-join (regionRules (begin r) (length lentOutput)) _ (regular-regions (begin r) (length lentOutput) R long-enough) (quiet-join (shapeRules (n (begin r)) (encode c)) (refusals (begin r) byList (encode c) c) shaped q),
         sym (loop-ends _ W (event-done .regular) t d),
       )))
       g o
@@ -91,6 +92,7 @@ pub record State (i : ℕ) (c : Counters) (k : ℕ) (held : List Block) (first :
   pub regular : RegularReplica (record { counters = c; memory = memory; store = store })
   pub settings : settingsOf memory ≡ six
   pub own : ownOf memory ≡ i
+  pub listed : leadersOf memory ≡ leaders
   pub count : blockCountOf memory ≡ k
   pub blocks : take k store ≡ held
   pub rows : Rows blockName first A C memory

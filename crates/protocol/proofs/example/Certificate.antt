@@ -20,7 +20,7 @@ use Rattle.certificate.specs.Good.{signerCount, signersNeeded, isGood}
 use Rattle.certificate.specs.Safe.{safeCertificate}
 use Rattle.blocks.specs.declared.Block.{Block}
 use Rattle.blocks.specs.Store.{genesis}
-use Rattle.memory.specs.Layout.{entryRoom, commitRow, settingsOf, ownOf, blockCountOf, withEntry}
+use Rattle.memory.specs.Layout.{entryRoom, commitRow, settingsOf, ownOf, blockCountOf, withEntry, leadersOf}
 use Rattle.memory.specs.Kept.{keep}
 use Rattle.memory.specs.Window.{entered}
 use Rattle.memory.proofs.Apart.{commits, rowOf, sizeOf, row-head}
@@ -29,12 +29,13 @@ use Rattle.memory.proofs.Entering.{length-entered, bytes-entered, entered-head}
 use Rattle.memory.proofs.Header.{same-header, keep-head, length-with-entry, bytes-with-entry, entry-own, entry-block-count, entry-behind}
 use Rattle.counters.specs.declared.Counters.{Counters}
 use Rattle.counters.specs.Counters.{unsigned, opened, certificateOf as certificateFrom, signedOf, locksOf, withLocks, adopting, entering, voting}
+use Rattle.memory.specs.Leaders.{byList}
 use Rattle.protocol.specs.Work.{Work, view, n, adopt, enterBy, keepCommit, sendCommit}
 use Rattle.protocol.specs.Refusals.{refusals}
 use Rattle.protocol.specs.Events.{withSender, progress, onRecord}
 use Rattle.protocol.specs.Applies.{Done, Turns, rest}
 use Rattle.protocol.specs.Calls.{Replica, begin}
-use Rattle.protocol.specs.Example.{six, blockName, theCertificate}
+use Rattle.protocol.specs.Example.{six, blockName, theCertificate, leaders}
 use Rattle.protocol.proofs.call.Regular.{Regular, Still}
 use Rattle.protocol.proofs.call.OneCall.{RegularReplica, begin-regular}
 use Rattle.protocol.proofs.chain.Records.{vote-framed, block-framed, with-sender, certificate-bytes}
@@ -91,7 +92,7 @@ afterCertificate =
 abbrev pub oneself : ℕ → Bool
 oneself = and-also 1 nobody
 
-module _ (m : List ℕ) (st : List Block) (settings : settingsOf m ≡ six) (own : ownOf m ≡ 1) (R : RegularReplica (record { counters = afterVote; memory = m; store = st })) where
+module _ (m : List ℕ) (st : List Block) (settings : settingsOf m ≡ six) (own : ownOf m ≡ 1) (listed : leadersOf m ≡ leaders) (R : RegularReplica (record { counters = afterVote; memory = m; store = st })) where
   abbrev before : Replica
   before = record { counters = afterVote; memory = m; store = st }
 
@@ -99,7 +100,7 @@ module _ (m : List ℕ) (st : List Block) (settings : settingsOf m ≡ six) (own
   unfolding Proper CertificateProper
   is-proper = rw settings (lit< tt)
 
-  not-refused : Quiet (refusals (begin before) (encode certified) certified)
+  not-refused : Quiet (refusals (begin before) byList (encode certified) certified)
   unfolding refusals afterVote voting opened isGood signersNeeded signerCount onesIn outranks locksOf certificateFrom
   not-refused = (rw settings, (refl, (rw settings, (refl, tt))))
 
@@ -174,6 +175,7 @@ module _ (m : List ℕ) (st : List Block) (settings : settingsOf m ≡ six) (own
           regular = begin-regular after regular-after;
           settings = still .settings ∙ settings;
           own = still .own ∙ own;
+          listed = still .leaders .list ∙ listed;
           count = same-header entry with (keep-head entry commits 1 1 blockName (name-is .size) (lit< tt)) .blockCount ∙ entry-block-count (entered m 1 2) sent-on
               ∙ same-header m (entered m 1 2) (entered-head m 1 2) .blockCount ∙ count;
           blocks = blocks;
@@ -184,5 +186,5 @@ module _ (m : List ℕ) (st : List Block) (settings : settingsOf m ≡ six) (own
 pub certificate-step : (r : Replica) → State 1 afterVote 1 (theBlock ∷ []) 1 oneself nobody r
     → Step r theCertificate (sent-on ∷ committed ∷ []) (State 1 afterCertificate 1 (theBlock ∷ []) 2 oneself oneself)
 certificate-step r s =
-    step r _ _ theCertificate (sent-on ∷ committed ∷ []) (s .is) (takes (s .memory) (s .store) (s .settings) (s .own) (s .regular) (s .rows))
-    (state-after (s .memory) (s .store) (s .settings) (s .own) (s .regular) (s .rows) 1 (theBlock ∷ []) (s .count) (s .blocks))
+    step r _ _ theCertificate (sent-on ∷ committed ∷ []) (s .is) (takes (s .memory) (s .store) (s .settings) (s .own) (s .listed) (s .regular) (s .rows))
+    (state-after (s .memory) (s .store) (s .settings) (s .own) (s .listed) (s .regular) (s .rows) 1 (theBlock ∷ []) (s .count) (s .blocks))

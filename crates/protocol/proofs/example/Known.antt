@@ -32,6 +32,7 @@ use Rattle.certificate.specs.declared.Certificate.{Certificate}
 use Rattle.certificate.specs.Rank.{outranks, carriedCertificate}
 use Rattle.certificate.specs.Good.{all, signerCount, signersNeeded, isGood, timeoutGood, progressGood}
 use Rattle.certificate.specs.Safe.{each, better, signs, joins, gives, backedBy, builtBy, carriedBy, safeOfTimeouts, safeCertificate}
+use Rattle.memory.specs.Leaders.{byList}
 use Rattle.protocol.specs.Work.{Work, n}
 use Rattle.protocol.specs.Typed.{BlockTyped}
 use Rattle.protocol.specs.Refusals.{outputLength, regionRules, refusals}
@@ -51,18 +52,18 @@ p also q = (p, q)
 -- ---- settings that an opening accepts, and settings that it refuses by 1
 opens : (f c k : ℕ) → let s : Settings = record { f = f; c = c; k = k } in replicas s ≤ largest → inBound s ≡ true → Holds (settings f c k (replicas s) (accepts (quorums s)))
 unfolding Holds openingCall outcome accepting
-opens f c k few bound r own long many member =
+opens f c k few bound r own leaders long many member list =
     let s : Settings = record { f = f; c = c; k = k } in
-    let o : Openable s own = record { few = few; bound = bound; member = member } in
-    rw (opening-takes r s own o long many, opened-settings (r .memory) s own o long)
+    let o : Openable s own leaders = record { few = few; bound = bound; member = member; list = list } in
+    rw (opening-takes r s own leaders o long many, opened-settings (r .memory) s own leaders o long)
 
 bound-refused : Holds (settings 2 0 1 8 (refuses 1))
 unfolding Holds openingCall openingCore openingRules outcome accepting judge
-bound-refused r own long many member = refl
+bound-refused r own leaders long many member list = refl
 
 many-refused : Holds (settings 8 4 0 33 (refuses 1))
 unfolding Holds openingCall openingCore openingRules outcome accepting judge
-many-refused r own long many member = refl
+many-refused r own leaders long many member list = refl
 
 -- ---- what a call's list says, whatever the call does
 judged : {B : Type 0} (r : Replica) (output : List ℕ) (rules : List Rule) (W : Work) (b : B) → accepting b (outcome r output (judge rules W) .reply) ≡ judge rules b
@@ -103,7 +104,7 @@ module _ (r : Replica) (output : List ℕ) (i : ℕ) (R : OfSix r) (room : outpu
   unfolding encode
   back = certificate-back i (byTimeouts 3 ts) (omega arith) timeouts-fit
 
-  listed : (k : Certificate) → judge (refusals (begin r) (encode x) x) k ≡ judge (not (progressGood six (byTimeouts 3 ts)) ⇒ 9 ∷ []) k
+  listed : (k : Certificate) → judge (refusals (begin r) byList (encode x) x) k ≡ judge (not (progressGood six (byTimeouts 3 ts)) ⇒ 9 ∷ []) k
   unfolding refusals judge
   listed k = rw (R .cluster, lt-leb 6 i member, le-ltb 3 _ (R .view))
 
@@ -238,11 +239,11 @@ module _ (A B : List ℕ) (nameA : IsName A) (nameB : IsName B) (blockA : A ≡ 
       also tt
 
 -- and such replicas there are: those that an opening with these settings and calls left, in a view up to 3
-module _ (r : Replica) (own size : ℕ) (b : IsBytes (r .memory)) (t : All BlockTyped (r .store)) (opened : openingCall r 1 1 0 6 own .reply ≡ accepts size) where
-  pub run-of-six : (ts : List Handing) → All HandingTyped ts → after (left (openingCall r 1 1 0 6 own)) ts .counters .view .0 ≤ 3 → OfSix (after (left (openingCall r 1 1 0 6 own)) ts)
+module _ (r : Replica) (own : ℕ) (leaders : List ℕ) (size : ℕ) (b : IsBytes (r .memory)) (t : All BlockTyped (r .store)) (opened : openingCall r 1 1 0 6 own leaders .reply ≡ accepts size) where
+  pub run-of-six : (ts : List Handing) → All HandingTyped ts → after byList (left (openingCall r 1 1 0 6 own leaders)) ts .counters .view .0 ≤ 3 → OfSix (after byList (left (openingCall r 1 1 0 6 own leaders)) ts)
   run-of-six ts h v =
       record {
-        cluster = run-settings r 1 1 0 6 own size b t opened ts h;
+        cluster = run-settings r 1 1 0 6 own leaders size b t opened ts h;
         view = v;
-        passes = run-passes r 1 1 0 6 own size b t opened ts h;
+        passes = run-passes r 1 1 0 6 own leaders size b t opened ts h;
       }

@@ -12,21 +12,23 @@ use lib.ListN.{length}
 use Rattle.settings.specs.declared.Settings.{Settings}
 use Rattle.settings.specs.Quorum.{replicas, blockQuorum, timeoutQuorum, slowQuorum, fastQuorum}
 use Rattle.settings.specs.Answer.{accepts, refuses, judge}
+use Rattle.settings.specs.Opening.{inTurn, numbersFrom}
+use Rattle.settings.proofs.Leaders.{in-turn-good}
 use Rattle.codec.specs.Bytes.{IsBytes}
 use Rattle.wire.specs.Fields.{timeoutLength}
 use Rattle.wire.specs.Encode.{timeoutBytes}
 use Rattle.wire.specs.Fit.{All}
 use Rattle.wire.proofs.Lengths.{length-timeout}
-use Rattle.memory.specs.Layout.{memoryLength, timeoutRow, voteRow, commitRow, timeoutsPlace, settingsOf, ownOf}
+use Rattle.memory.specs.Layout.{memoryLength, timeoutRow, voteRow, commitRow, timeoutsPlace, settingsOf, ownOf, leadersOf}
 use Rattle.memory.specs.Kept.{has, keep, keptCount}
-use Rattle.memory.specs.Window.{leaderOf}
+use Rattle.memory.specs.Leaders.{entryFor, byList}
 use Rattle.memory.proofs.Apart.{Table, votes, commits, timeouts, rowOf, rowsOf, sizeOf, widthOf}
 use Rattle.memory.proofs.Bits.{counted, counted-le}
 use Rattle.memory.proofs.Clearing.{has-same}
 use Rattle.memory.proofs.Counting.{kept-counted, tally-kept}
 use Rattle.memory.proofs.Entering.{tag}
 use Rattle.counters.specs.Counters.{opened, timing}
-use Rattle.protocol.specs.Work.{Work, settings, n, own, ownTimeout, keepTimeout, sendTimeout}
+use Rattle.protocol.specs.Work.{Work, n, own, ownTimeout, keepTimeout, sendTimeout}
 use Rattle.protocol.specs.Typed.{BlockTyped}
 use Rattle.protocol.specs.Refusals.{storeLength, outputLength, regionRules, timerRules, proposeRules}
 use Rattle.protocol.specs.Applies.{Done, rest}
@@ -36,7 +38,7 @@ use Rattle.protocol.specs.Example.{six, blockName}
 use Rattle.protocol.specs.Listing.{linesOf, printed}
 use Rattle.protocol.proofs.call.Regular.{Regular}
 use Rattle.protocol.proofs.call.Actions.{own-timeout-fits, timeout-regular}
-use Rattle.protocol.proofs.call.Opening.{Openable, openedWork, opened-settings, opened-own, opened-none, opened-regular, opening-takes}
+use Rattle.protocol.proofs.call.Opening.{Openable, openedWork, opened-settings, opened-own, opened-leaders, opened-none, opened-regular, opening-takes}
 use Rattle.protocol.proofs.call.OneCall.{RegularReplica, regular-regions, begin-regular}
 use Rattle.protocol.proofs.loop.Loop.{loop-ends}
 use Rattle.protocol.proofs.call.Regions.{judge-past}
@@ -77,28 +79,28 @@ module _ (m e : List ℕ) (b : IsBytes m) (long : memoryLength ≤ length m) (l 
 
 -- ---- the calls
 module _ (lent : Replica) (b : IsBytes (lent .memory)) (typed : All BlockTyped (lent .store)) (long : memoryLength ≤ length (lent .memory)) (many : storeLength ≤ length (lent .store)) where
-  openable : Openable six 1
-  openable = record { few = lit≤ tt; bound = refl; member = lit< tt }
+  openable : Openable six 1 (inTurn 6)
+  openable = record { few = lit≤ tt; bound = refl; member = lit< tt; list = in-turn-good 6 (lit< tt) (lit≤ tt) }
 
   -- what the opening leaves
   abbrev m₀ : List ℕ
-  m₀ = openedMemory (lent .memory) six 1
+  m₀ = openedMemory (lent .memory) six 1 (inTurn 6)
 
   abbrev r₀ : Replica
   r₀ = record { counters = opened; memory = m₀; store = lent .store }
 
-  opening-is : openingCall lent 1 1 0 6 1 ≡ outcome lent [] (accepts (openedWork (lent .memory) (lent .store) six 1))
+  opening-is : openingCall lent 1 1 0 6 1 (inTurn 6) ≡ outcome lent [] (accepts (openedWork (lent .memory) (lent .store) six 1 (inTurn 6)))
   unfolding openingCall
-  opening-is = ap (outcome lent []) (opening-takes lent six 1 openable long many)
+  opening-is = ap (outcome lent []) (opening-takes lent six 1 (inTurn 6) openable long many)
 
   R₀ : RegularReplica r₀
-  R₀ = opened-regular (lent .memory) (lent .store) six 1 openable b typed long many
+  R₀ = opened-regular (lent .memory) (lent .store) six 1 (inTurn 6) openable b typed long many
 
   settings₀ : settingsOf m₀ ≡ six
-  settings₀ = opened-settings (lent .memory) six 1 openable long
+  settings₀ = opened-settings (lent .memory) six 1 (inTurn 6) openable long
 
   own₀ : ownOf m₀ ≡ 1
-  own₀ = opened-own (lent .memory) six 1 openable long
+  own₀ = opened-own (lent .memory) six 1 (inTurn 6) openable long
 
   -- timer 2: above the view
   module _ (a : List ℕ) (room : outputLength ≤ length a) where
@@ -119,7 +121,7 @@ module _ (lent : Replica) (b : IsBytes (lent .memory)) (typed : All BlockTyped (
 
   most : (t : Table) (v : ℕ) → keptCount (W₁ .memory) (rowOf t v) 6 ≤ 1
   unfolding sent
-  most t v = rw memory₁ (most-one m₀ sent (R₀ .typed .memory) (R₀ .memory-long) (length-timeout _ (own-timeout-fits (begin r₀) 1 (lit< tt) R₀)) (opened-none (lent .memory) six 1 openable long) t v)
+  most t v = rw memory₁ (most-one m₀ sent (R₀ .typed .memory) (R₀ .memory-long) (length-timeout _ (own-timeout-fits (begin r₀) 1 (lit< tt) R₀)) (opened-none (lent .memory) six 1 (inTurn 6) openable long) t v)
 
   R₁ : Regular W₁
   unfolding W₁
@@ -132,6 +134,14 @@ module _ (lent : Replica) (b : IsBytes (lent .memory)) (typed : All BlockTyped (
   own₁ : ownOf (W₁ .memory) ≡ 1
   unfolding W₁
   own₁ = timeout-regular (begin r₀) 1 (lit< tt) R₀ .1 .own ∙ own₀
+
+  leaders₁ : leadersOf (W₁ .memory) ≡ inTurn 6
+  unfolding W₁
+  leaders₁ = timeout-regular (begin r₀) 1 (lit< tt) R₀ .1 .leaders .list ∙ opened-leaders (lent .memory) six 1 (inTurn 6) openable long
+
+  first-leads : byList (W₁ .memory) 1 ≡ 0
+  unfolding byList entryFor numbersFrom
+  first-leads = rw leaders₁
 
   n-is : n W₁ ≡ 6
   n-is = ap replicas settings₁
@@ -166,18 +176,18 @@ module _ (lent : Replica) (b : IsBytes (lent .memory)) (typed : All BlockTyped (
 
   -- propose: replica 0 leads view 1
   module _ (a : List ℕ) (room : outputLength ≤ length a) where
-    not-leader : (A : Type 0) (x : A) → judge (proposeRules (begin r₁) blockName) x ≡ refuses 15
-    unfolding judge proposeRules leaderOf opened W₁ sendTimeout keepTimeout timing
-    not-leader A x = rw (settings₁, own₁)
+    not-leader : (A : Type 0) (x : A) → judge (proposeRules (begin r₁) byList blockName) x ≡ refuses 15
+    unfolding judge proposeRules opened W₁ sendTimeout keepTimeout timing
+    not-leader A x = rw (first-leads, own₁)
 
-    fourth : proposeCall r₁ a blockName ≡ outcome r₁ a (refuses 15)
+    fourth : proposeCall byList r₁ a blockName ≡ outcome r₁ a (refuses 15)
     unfolding proposeCall proposeCore
     fourth =
         ap (outcome r₁ a)
-        (judge-past _ (regionRules (begin r₁) (length a)) (proposeRules (begin r₁) blockName) (regular-regions (begin r₁) (length a) (begin-regular W₁ R₁) room) ∙ not-leader Work _)
+        (judge-past _ (regionRules (begin r₁) (length a)) (proposeRules (begin r₁) byList blockName) (regular-regions (begin r₁) (length a) (begin-regular W₁ R₁) room) ∙ not-leader Work _)
 
   -- THE LISTING: the opening is accepted, and the calls after it print what 01 says
   pub listing : (a b c d : List ℕ) → outputLength ≤ length a → outputLength ≤ length b → outputLength ≤ length c → outputLength ≤ length d
-      → (openingCall lent 1 1 0 6 1 .reply ≡ accepts 0) × (linesOf (left (openingCall lent 1 1 0 6 1)) a b c d ≡ printed)
+      → (openingCall lent 1 1 0 6 1 (inTurn 6) .reply ≡ accepts 0) × (linesOf (left (openingCall lent 1 1 0 6 1 (inTurn 6))) a b c d ≡ printed)
   unfolding outcome W₁ sendTimeout keepTimeout timing opened
   listing a b c d ha hb hc hd = (ap (λ (o : Outcome). o .reply) opening-is, rw (opening-is, first a ha, second b hb, third c hc, fourth d hd))

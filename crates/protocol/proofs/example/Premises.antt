@@ -20,7 +20,7 @@ use Rattle.safety.specs.Count.{count}
 use Rattle.safety.specs.Run.{AllAllowed, Earlier, Read, is-vote, is-commit, is-timeout, is-release, is-other, released as rowIn}
 use Rattle.protocol.specs.Calls.{Replica}
 use Rattle.protocol.specs.OneChain.{Placement, Entry, replicaMachine, readOf, reads, Premises, OneChain, placed, rowOf}
-use Rattle.protocol.specs.Example.{six, honestOnes, openedAs, blockName, theProposal, voteOf, theCertificate, entries}
+use Rattle.protocol.specs.Example.{six, honestOnes, openedAs, blockName, theProposal, voteOf, theCertificate, entries, leaders}
 use Rattle.protocol.proofs.chain.Demand3.{demand-3}
 use Rattle.protocol.proofs.example.Proposal.{is-opened}
 use Rattle.protocol.proofs.example.Certificate.{sent-on, committed}
@@ -107,7 +107,7 @@ numbered i h = go (leb 1 i) h
     go true p = omega (arith, leb→le i 5 p)
     go false p = absurd p
 
-pub example-premises : Premises six honestOnes openedAs entries
+pub example-premises : Premises six honestOnes openedAs entries leaders
 unfolding All count
 example-premises =
     record {
@@ -152,11 +152,11 @@ pub example-row : rowOf six honestOnes openedAs entries 1 ≡ (blockName, 1) ∷
 example-row = rw (p₁ .makes, p₂ .makes, p₃ .makes, p₄ .makes, p₅ .makes, c₁ .makes, v₂ .makes, v₃ .makes, v₄ .makes, v₅ .makes, v₀ .makes) its-row
 
 pub example-chain : OneChain six honestOnes openedAs entries
-example-chain = demand-3 six honestOnes openedAs entries example-premises
+example-chain = demand-3 six leaders honestOnes openedAs entries example-premises
 
--- in one: settings, honest replicas, opened states and entries that meet the premises, and an honest replica whose row is not empty
+-- in one: settings, honest replicas, opened states, entries and leader list that meet the premises, and an honest replica whose row is not empty
 abbrev pub PremisesMet : Type 0
-PremisesMet = (set : Settings) × (honest : ℕ → Bool) × (σ : ℕ → Replica) × (run : List (ℕ × Entry)) × Premises set honest σ run × (i : ℕ) × T (honest i) × (rowOf set honest σ run i ≡ [] → ⊥)
+PremisesMet = (set : Settings) × (honest : ℕ → Bool) × (σ : ℕ → Replica) × (run : List (ℕ × Entry)) × (leaders : List ℕ) × Premises set honest σ run leaders × (i : ℕ) × T (honest i) × (rowOf set honest σ run i ≡ [] → ⊥)
 
 pub premises-met : PremisesMet
-premises-met = (six, honestOnes, openedAs, entries, example-premises, 1, tt, λ e. let z : _≡_ {A = ℕ} 1 0 = ap length (sym example-row ∙ e) in omega arith)
+premises-met = (six, honestOnes, openedAs, entries, leaders, example-premises, 1, tt, λ e. let z : _≡_ {A = ℕ} 1 0 = ap length (sym example-row ∙ e) in omega arith)

@@ -8,6 +8,7 @@ use mathlib.Core.List.{List, [], _∷_, append-nil}
 use borrow.Author.Tests.{eq-eqb, ne-eqb}
 use lib.Dec.{leb, lit<, lit≤}
 use lib.ListN.{length, take, set, replicate, length-replicate}
+use Rattle.settings.specs.Opening.{hasFrom, badLeaders}
 use Rattle.codec.specs.Bytes.{IsBytes}
 use Rattle.codec.specs.Names.{nameLength, sameBytes, zeroName, lessBytes}
 use Rattle.codec.proofs.Order.{same-ne}
@@ -23,9 +24,9 @@ use Rattle.certificate.specs.Good.{isGood, progressGood}
 use Rattle.certificate.specs.Safe.{safeCertificate}
 use Rattle.blocks.specs.declared.Block.{Block}
 use Rattle.blocks.specs.Store.{genesis, find, held}
-use Rattle.memory.specs.Layout.{memoryLength, voteRow, settingsOf, ownOf, blockCountOf, withBlockCount}
+use Rattle.memory.specs.Layout.{memoryLength, voteRow, settingsOf, ownOf, blockCountOf, withBlockCount, leadersOf}
 use Rattle.memory.specs.Kept.{keep}
-use Rattle.memory.specs.Window.{leaderOf}
+use Rattle.memory.specs.Leaders.{entryFor, byList}
 use Rattle.memory.proofs.Apart.{votes, rowOf, sizeOf, row-head}
 use Rattle.memory.proofs.Bits.{counted, counted-one}
 use Rattle.memory.proofs.Clearing.{bytes-zero}
@@ -39,9 +40,9 @@ use Rattle.protocol.specs.Events.{propositionOf, onRecord}
 use Rattle.protocol.specs.Applies.{Done, Turns, rest}
 use Rattle.protocol.specs.Calls.{Replica, begin}
 use Rattle.protocol.specs.OneChain.{Opened}
-use Rattle.protocol.specs.Example.{six, lentMemory, lentStore, openedAs, blockName, theProposal, voteOf}
+use Rattle.protocol.specs.Example.{six, lentMemory, lentStore, openedAs, blockName, theProposal, voteOf, leaders}
 use Rattle.protocol.proofs.call.Typing.{zero-is-name}
-use Rattle.protocol.proofs.call.Opening.{Openable, openedWork, opened-settings, opened-own, opened-count, opened-none, opened-regular, opening-takes}
+use Rattle.protocol.proofs.call.Opening.{Openable, openedWork, opened-settings, opened-own, opened-leaders, opened-count, opened-none, opened-regular, opening-takes}
 use Rattle.protocol.proofs.call.Regular.{Regular, Still}
 use Rattle.protocol.proofs.call.OneCall.{RegularReplica, begin-regular}
 use Rattle.protocol.proofs.chain.Records.{vote-framed}
@@ -92,21 +93,22 @@ lent-typed : All BlockTyped lentStore
 unfolding lentStore
 lent-typed = all-same storeLength
 
-openable : (i : ℕ) → i < 6 → Openable six i
-openable i h = record { few = lit≤ tt; bound = refl; member = h }
+openable : (i : ℕ) → i < 6 → Openable six i leaders
+unfolding hasFrom badLeaders leaders
+openable i h = record { few = lit≤ tt; bound = refl; member = h; list = refl }
 
 opened-is-regular : (i : ℕ) → i < 6 → RegularReplica (openedAs i)
-opened-is-regular i h = opened-regular lentMemory lentStore six i (openable i h) lent-bytes lent-typed lent-long lent-many
+opened-is-regular i h = opened-regular lentMemory lentStore six i leaders (openable i h) lent-bytes lent-typed lent-long lent-many
 
-pub is-opened : (i : ℕ) → i < 6 → Opened six i (openedAs i)
+pub is-opened : (i : ℕ) → i < 6 → Opened six leaders i (openedAs i)
 is-opened i h =
     record {
       lent = record { counters = opened; memory = lentMemory; store = lentStore };
       counters = opened-is-regular i h .typed .counters;
       memory = lent-bytes;
       store = lent-typed;
-      work = openedWork lentMemory lentStore six i;
-      opens = opening-takes (record { counters = opened; memory = lentMemory; store = lentStore }) six i (openable i h) lent-long lent-many;
+      work = openedWork lentMemory lentStore six i leaders;
+      opens = opening-takes (record { counters = opened; memory = lentMemory; store = lentStore }) six i leaders (openable i h) lent-long lent-many;
       leaves = refl;
     }
 
@@ -118,11 +120,12 @@ opened-state i h =
       store = lentStore;
       is = refl;
       regular = opened-is-regular i h;
-      settings = opened-settings lentMemory six i o lent-long;
-      own = opened-own lentMemory six i o lent-long;
-      count = opened-count lentMemory six i o lent-long;
+      settings = opened-settings lentMemory six i leaders o lent-long;
+      own = opened-own lentMemory six i leaders o lent-long;
+      listed = opened-leaders lentMemory six i leaders o lent-long;
+      count = opened-count lentMemory six i leaders o lent-long;
       blocks = refl;
-      rows = rows-none blockName (openedAs i .memory) (opened-none lentMemory six i o lent-long);
+      rows = rows-none blockName (openedAs i .memory) (opened-none lentMemory six i leaders o lent-long);
     }
 
 -- ---- the proposal
@@ -160,7 +163,7 @@ first-set (a ∷ st) b h = refl
 unfoldable pub afterVote : Counters
 afterVote = voting opened (record { view = view 1; name = blockName })
 
-module _ (i : ℕ) (low : 1 ≤ i) (high : i < 6) (m : List ℕ) (st : List Block) (settings : settingsOf m ≡ six) (own : ownOf m ≡ i) (count : blockCountOf m ≡ 0)
+module _ (i : ℕ) (low : 1 ≤ i) (high : i < 6) (m : List ℕ) (st : List Block) (settings : settingsOf m ≡ six) (own : ownOf m ≡ i) (listed : leadersOf m ≡ leaders) (count : blockCountOf m ≡ 0)
     (R : RegularReplica (record { counters = opened; memory = m; store = st })) where
   abbrev before : Replica
   before = record { counters = opened; memory = m; store = st }
@@ -172,10 +175,15 @@ module _ (i : ℕ) (low : 1 ≤ i) (high : i < 6) (m : List ℕ) (st : List Bloc
   has-room : noRoom (begin before) blockName ≡ false
   has-room = ap (λ (k : ℕ). not (held (opened .tip) (take k st) blockName .is) && leb storeLength k) count ∙ and-false (not (held (opened .tip) [] blockName .is))
 
-  not-refused : Quiet (refusals (begin before) (encode proposed) proposed)
-  unfolding refusals opened leaderOf progressGood isGood sameBytes safeCertificate held find
+  -- replica 0 leads view 1
+  first-leads : byList m 1 ≡ 0
+  unfolding byList entryFor leaders
+  first-leads = rw listed
+
+  not-refused : Quiet (refusals (begin before) byList (encode proposed) proposed)
+  unfolding refusals opened progressGood isGood sameBytes safeCertificate held find
   not-refused =
-      (rw (settings, own, ne-eqb 0 i (omega arith)), (refl, (refl, (refl, (refl, (rw (zero-not-name, count), (refl, (refl, (has-room, tt)))))))))
+      (rw (settings, own, ne-eqb 0 i (omega arith), first-leads), (refl, (refl, (refl, (refl, (rw (zero-not-name, count), (refl, (refl, (has-room, tt)))))))))
 
   with : List ℕ
   with = keep (withBlockCount m 1) (voteRow 1) nameLength i blockName
@@ -232,6 +240,7 @@ module _ (i : ℕ) (low : 1 ≤ i) (high : i < 6) (m : List ℕ) (st : List Bloc
           regular = begin-regular after regular-after;
           settings = still .settings ∙ settings;
           own = still .own ∙ own;
+          listed = still .leaders .list ∙ listed;
           count = same-header (withBlockCount m 1) with (keep-head (withBlockCount m 1) votes 1 i blockName (name-is .size) (omega arith)) .blockCount
               ∙ count-put m 1 (lit< tt) (omega (arith, R .memory-long));
           blocks = first-set st theBlock (omega (arith, R .store-long));
@@ -242,5 +251,5 @@ module _ (i : ℕ) (low : 1 ≤ i) (high : i < 6) (m : List ℕ) (st : List Bloc
 pub proposal-step : (i : ℕ) → 1 ≤ i → i < 6 → (r : Replica) → State i opened 0 [] 1 nobody nobody r
     → Step r theProposal (voteOf i ∷ []) (State i afterVote 1 (theBlock ∷ []) 1 (and-also i nobody) nobody)
 proposal-step i low high r s =
-    step r _ _ theProposal (voteOf i ∷ []) (s .is) (takes i low high (s .memory) (s .store) (s .settings) (s .own) (s .count) (s .regular) (s .rows))
-    (state-after i low high (s .memory) (s .store) (s .settings) (s .own) (s .count) (s .regular) (s .rows))
+    step r _ _ theProposal (voteOf i ∷ []) (s .is) (takes i low high (s .memory) (s .store) (s .settings) (s .own) (s .listed) (s .count) (s .regular) (s .rows))
+    (state-after i low high (s .memory) (s .store) (s .settings) (s .own) (s .listed) (s .count) (s .regular) (s .rows))

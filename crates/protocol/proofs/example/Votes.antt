@@ -17,18 +17,19 @@ use Rattle.wire.proofs.Facts.{Quiet}
 use Rattle.blocks.specs.declared.Block.{Block}
 use Rattle.blocks.specs.declared.Found.{Found}
 use Rattle.blocks.specs.Store.{genesis, found, find, held, leads, descends, line, ancestry, releases, kept}
-use Rattle.memory.specs.Layout.{voteRow, settingsOf, ownOf, blockCountOf, withBlockCount}
+use Rattle.memory.specs.Layout.{voteRow, settingsOf, ownOf, blockCountOf, withBlockCount, leadersOf}
 use Rattle.memory.specs.Kept.{has, keep}
 use Rattle.memory.proofs.Apart.{votes, rowOf, sizeOf, row-head}
 use Rattle.memory.proofs.Bits.{counted}
 use Rattle.memory.proofs.Header.{same-header, keep-head, count-settings, count-behind}
 use Rattle.counters.specs.Counters.{certificateOf as certificateFrom, locksOf, releasing}
+use Rattle.memory.specs.Leaders.{byList}
 use Rattle.protocol.specs.Work.{Work, n, own, blocks, heldBlock, keepVote, release}
 use Rattle.protocol.specs.Refusals.{refusals}
 use Rattle.protocol.specs.Events.{onRecord}
 use Rattle.protocol.specs.Applies.{Done, Turns, turn, rest, runD, NoC}
 use Rattle.protocol.specs.Calls.{Replica, begin}
-use Rattle.protocol.specs.Example.{six, blockName, voteOf}
+use Rattle.protocol.specs.Example.{six, blockName, voteOf, leaders}
 use Rattle.protocol.proofs.call.Regular.{Regular, Still}
 use Rattle.protocol.proofs.call.OneCall.{RegularReplica, begin-regular}
 use Rattle.protocol.proofs.chain.Records.{release-framed}
@@ -46,7 +47,7 @@ vote-fits j h = (omega arith, lit< tt, name-is)
 unfoldable pub released : List ℕ
 released = releaseBytes 1 1 blockName 1
 
-module _ (j : ℕ) (low : j < 6) (other : j ≡ 1 → ⊥) (A : ℕ → Bool) (new : A j ≡ false) (m : List ℕ) (st : List Block) (settings : settingsOf m ≡ six) (is-one : ownOf m ≡ 1)
+module _ (j : ℕ) (low : j < 6) (other : j ≡ 1 → ⊥) (A : ℕ → Bool) (new : A j ≡ false) (m : List ℕ) (st : List Block) (settings : settingsOf m ≡ six) (is-one : ownOf m ≡ 1) (listed : leadersOf m ≡ leaders)
     (count : blockCountOf m ≡ 1) (held-ones : take 1 st ≡ theBlock ∷ []) (rows : Rows blockName 2 A oneself m)
     (R : RegularReplica (record { counters = afterCertificate; memory = m; store = st })) where
   abbrev before : Replica
@@ -62,7 +63,7 @@ module _ (j : ℕ) (low : j < 6) (other : j ≡ 1 → ⊥) (A : ℕ → Bool) (n
   none : has m (voteRow 1) j ≡ false
   none = rows .voted 1 j (lit≤ tt) (lit≤ tt) ∙ new
 
-  not-refused : Quiet (refusals (begin before) (encode its) its)
+  not-refused : Quiet (refusals (begin before) byList (encode its) its)
   unfolding refusals afterCertificate
   not-refused = (rw (settings, is-one, lt-leb 6 j low, ne-eqb j 1 other), (refl, (refl, (rw none, (none, tt)))))
 
@@ -124,6 +125,7 @@ module _ (j : ℕ) (low : j < 6) (other : j ≡ 1 → ⊥) (A : ℕ → Bool) (n
           regular = begin-regular after regular-after;
           settings = still .settings ∙ settings;
           own = still .own ∙ is-one;
+          listed = still .leaders .list ∙ listed;
           count = count-after;
           blocks = held-ones;
           rows = rows-after;
@@ -184,11 +186,11 @@ module _ (j : ℕ) (low : j < 6) (other : j ≡ 1 → ⊥) (A : ℕ → Bool) (n
 pub vote-step : (j : ℕ) → j < 6 → (j ≡ 1 → ⊥) → (A : ℕ → Bool) → A j ≡ false → counted (and-also j A) 6 ≤ 5 → (r : Replica) → State 1 afterCertificate 1 (theBlock ∷ []) 2 A oneself r
     → Step r (voteOf j) [] (State 1 afterCertificate 1 (theBlock ∷ []) 2 (and-also j A) oneself)
 vote-step j low other A new few r s =
-    step r _ _ (voteOf j) [] (s .is) (takes j low other A new (s .memory) (s .store) (s .settings) (s .own) (s .count) (s .blocks) (s .rows) (s .regular) few)
-    (state-after j low other A new (s .memory) (s .store) (s .settings) (s .own) (s .count) (s .blocks) (s .rows) (s .regular) few)
+    step r _ _ (voteOf j) [] (s .is) (takes j low other A new (s .memory) (s .store) (s .settings) (s .own) (s .listed) (s .count) (s .blocks) (s .rows) (s .regular) few)
+    (state-after j low other A new (s .memory) (s .store) (s .settings) (s .own) (s .listed) (s .count) (s .blocks) (s .rows) (s .regular) few)
 
 -- THE LAST VOTE: the block is released
 pub release-step : (j : ℕ) → j < 6 → (j ≡ 1 → ⊥) → (A : ℕ → Bool) → A j ≡ false → counted (and-also j A) 6 ≡ 6 → (r : Replica) → State 1 afterCertificate 1 (theBlock ∷ []) 2 A oneself r
     → Step r (voteOf j) (released ∷ []) (λ s. Unit {0})
 release-step j low other A new all r s =
-    step r _ _ (voteOf j) (released ∷ []) (s .is) (releases-it j low other A new (s .memory) (s .store) (s .settings) (s .own) (s .count) (s .blocks) (s .rows) (s .regular) all) tt
+    step r _ _ (voteOf j) (released ∷ []) (s .is) (releases-it j low other A new (s .memory) (s .store) (s .settings) (s .own) (s .listed) (s .count) (s .blocks) (s .rows) (s .regular) all) tt

@@ -1,0 +1,37 @@
+-- AS BEFORE (02, 2.1: "With regions long enough, the list 0 to n−1 must behave exactly as today"): an opening with that list answers as 01's, and every list of
+-- calls from there gives what it gives by 01's rule of the leader. That both hold is proofs/call/AsBefore.antt. Assumes nothing.
+use Prim.Native.Nat.{ℕ}
+use mathlib.Core.Path.{_≡_}
+use mathlib.Core.List.{List, []}
+use Rattle.settings.specs.declared.Settings.{Settings}
+use Rattle.settings.specs.Answer.{accepts, Rule, judge}
+use Rattle.settings.specs.Opening.{openingRules, inTurn}
+use Rattle.codec.specs.Bytes.{IsBytes}
+use Rattle.wire.specs.Fit.{All}
+use Rattle.memory.specs.Leaders.{byList, roundRobin}
+use Rattle.counters.specs.Counters.{opened}
+use Rattle.protocol.specs.Work.{Work}
+use Rattle.protocol.specs.Typed.{BlockTyped}
+use Rattle.protocol.specs.Calls.{Replica, _then_, lengthRules, openedMemory, openingCore, openingCall}
+use Rattle.protocol.specs.OneCall.{left, Handing, HandingTyped, outcomes}
+
+-- 01's refusals of an opening, which knows no list: 1 by the settings and the own number, then 2
+abbrev pub refusalsBefore : Replica → Settings → ℕ → ℕ → List Rule
+refusalsBefore r s n own = openingRules s n own then lengthRules r
+
+-- what an opening leaves that is accepted
+abbrev pub openedWith : Replica → Settings → ℕ → List ℕ → Work
+openedWith r s own leaders = record { counters = opened; memory = openedMemory (r .memory) s own leaders; store = r .store; out = [] }
+
+-- over any regions and with any numbers
+abbrev pub OpensAsBefore : Type 0
+OpensAsBefore =
+    (r : Replica) (f c k n own : ℕ)
+    → let s : Settings = record { f = f; c = c; k = k } in openingCore r f c k n own (inTurn n) ≡ judge (refusalsBefore r s n own) (openedWith r s own (inTurn n))
+
+-- replies, bytes sent, releases and states, of any list of calls, whatever is refused
+abbrev pub CallsAsBefore : Type 0
+CallsAsBefore =
+    (r : Replica) (f c k n own size : ℕ) → IsBytes (r .memory) → All BlockTyped (r .store) → openingCall r f c k n own (inTurn n) .reply ≡ accepts size
+    → (ts : List Handing) → All HandingTyped ts
+    → let opened = left (openingCall r f c k n own (inTurn n)) in outcomes byList opened ts ≡ outcomes roundRobin opened ts
