@@ -3,7 +3,7 @@ use Prim.Native.Nat.{ℕ, zero, suc, _+_, _-_, _≤_, _<_}
 use native.Mathlib.Omega.{arith}
 use mathlib.Core.Path.{_≡_, refl, sym, ap, _∙_}
 use mathlib.Core.List.{List, [], _∷_, _++_, append-assoc}
-use lib.Dec.{lit<}
+use lib.Dec.{lit<, leb}
 use lib.ListN.{length, take, drop, set, replicate, length-append, length-drop, length-set, take-append-drop}
 use lib.Seq.{take-at, take-append-seam, drop-append-add, drop-drop, take-suc-set, drop-set-lt, length-take-le}
 use borrow.Author.Tests.{leb-true, ltb-true}
@@ -18,7 +18,7 @@ use Rattle.blocks.specs.Store.{genesis}
 use Rattle.protocol.specs.Work.{Work}
 use Rattle.protocol.specs.Typed.{BlockTyped, CountersTyped}
 use Rattle.settings.specs.Opening.{inBound}
-use Rattle.protocol.specs.Refusals.{storeLength, regular, entryRegular}
+use Rattle.protocol.specs.Refusals.{storeLength, regular}
 use Rattle.protocol.proofs.call.Typing.{zero-is-name}
 use Rattle.protocol.proofs.call.Regular.{Regular, rules-regular, regular-rules}
 use Rattle.protocol.proofs.call.Written.{Grows}
@@ -187,5 +187,5 @@ ready-facts d m o r =
     let c = and-true _ _ (b .1) in
     let e = and-true _ _ (c .1) in
     let f = and-true _ _ (e .1) in
-    let g = and-true _ (entryRegular (workOf d m o [])) (f .1) in
+    let g = and-true (leb (blockCountOf m) storeLength) _ (f .1) in
     record { few = leb-true _ _ (a .0); member = ltb-true _ _ (c .0); view-first = leb-true _ _ (e .0); view-last = leb-true _ _ (f .0); blocks = leb-true _ _ (g .0) }

@@ -16,7 +16,7 @@ use Rattle.certificate.specs.Safe.{safeCertificate}
 use Rattle.blocks.specs.declared.Block.{Block}
 use Rattle.blocks.specs.Store.{held}
 use Rattle.memory.specs.Layout.{entryRoom, settingsOf, blockCountOf, withBlockCount}
-use Rattle.memory.proofs.Header.{length-with-count, bytes-with-count, count-put, count-settings, count-own, count-entry}
+use Rattle.memory.proofs.Header.{length-with-count, bytes-with-count, count-put, count-settings, count-own, count-leaders, count-entry}
 use Rattle.counters.specs.declared.Counters.{Counters}
 use Rattle.counters.specs.Counters.{adopting, withLocks}
 use Rattle.protocol.specs.Work.{Work, own, settings, timed, highView, heldBlock, hold, sendVote, keepVote}
@@ -90,7 +90,7 @@ module _ (d : Draft) (m o : List ℕ) (t : Bool) (k : ℕ) (a : Ready d m o k) (
           let W₁ = workOf d m₁ o emptyStore in
           let put : blockCountOf m₁ ≡ j + 1 = count-put m (j + 1) (omega arith) (omega (arith, R .memory-long)) in
           let R₁ : Regular W₁ =
-          regular-after W W₁ R (record { settings = count-settings m (j + 1); own = count-own m (j + 1); memory = length-with-count m (j + 1); store = refl })
+          regular-after W W₁ R (record { settings = count-settings m (j + 1); own = count-own m (j + 1); leaders = count-leaders m (j + 1); memory = length-with-count m (j + 1); store = refl })
           (record { counters = R .typed .counters; memory = bytes-with-count m (j + 1) (R .typed .memory); store = R .typed .store })
           (R .view-first) (R .view-last) (omega (arith, put)) (rw (count-entry m (j + 1)) (R .entry)) in
           let at-is : length (take (d .at) o) ≡ d .at = length-take-le (d .at) o (omega (arith, a .room)) in

@@ -11,7 +11,7 @@ use Rattle.codec.proofs.Le.{length-leBytes}
 use Rattle.wire.specs.Encode.{blockCertificateBytes}
 use Rattle.wire.proofs.Lengths.{length-header}
 use Rattle.wire.proofs.Writes.{first, next, whole}
-use Rattle.memory.specs.Layout.{withBlockCount, withEntry}
+use Rattle.memory.specs.Layout.{withBlockCount, withLeaders, withEntry}
 use Rattle.memory.specs.Window.{withoutBallots, withoutTimeouts}
 use Rattle.protocol.specs.Calls.{openedMemory}
 use Rattle.event.specs.Event.{headBytes}
@@ -37,7 +37,7 @@ length-genesis own = simp (length-append, length-header, length-leBytes)
 pub genesis-put : (own : ℕ) {r : List ℕ} → r ≡ patch (replicate 56 0) 0 (blockCertificateBytes own 0 zeroName 0) → r ≡ blockCertificateBytes own 0 zeroName 0
 genesis-put own e = e ∙ patch-whole (replicate 56 0) (blockCertificateBytes own 0 zeroName 0) (length-genesis own)
 
-pub opened-put : (m : List ℕ) (s : Settings) (own : ℕ) {r m₁ m₂ m₃ m₄ m₅ : List ℕ} → r ≡ blockCertificateBytes own 0 zeroName 0 → m₁ ≡ patch m 0 (headBytes s own) → m₂ ≡ withBlockCount m₁ 0
-    → m₃ ≡ withEntry m₂ r → m₄ ≡ withoutBallots m₃ 0 8 → m₅ ≡ withoutTimeouts m₄ 0 4 → m₅ ≡ openedMemory m s own
+pub opened-put : (m : List ℕ) (s : Settings) (own : ℕ) (leaders : List ℕ) {r m₀ m₁ m₂ m₃ m₄ m₅ : List ℕ} → r ≡ blockCertificateBytes own 0 zeroName 0 → m₀ ≡ patch m 0 (headBytes s own)
+    → m₁ ≡ withLeaders m₀ leaders → m₂ ≡ withBlockCount m₁ 0 → m₃ ≡ withEntry m₂ r → m₄ ≡ withoutBallots m₃ 0 8 → m₅ ≡ withoutTimeouts m₄ 0 4 → m₅ ≡ openedMemory m s own leaders
 unfolding openedMemory headBytes
-opened-put m s own e a b c d f = f ∙ rw (d, c, b, a, e)
+opened-put m s own leaders e h a b c d f = f ∙ rw (d, c, b, a, h, e)

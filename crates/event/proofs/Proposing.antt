@@ -20,7 +20,7 @@ use Rattle.wire.proofs.Lengths.{length-proposal}
 use Rattle.certificate.specs.declared.Certificate.{Certificate}
 use Rattle.certificate.specs.Safe.{safeCertificate}
 use Rattle.blocks.specs.declared.Block.{Block}
-use Rattle.memory.specs.Layout.{memoryLength, entryRoom, settingsOf, ownOf, entryOf, entryLengthOf}
+use Rattle.memory.specs.Layout.{entryPlace, memoryLength, entryRoom, settingsOf, ownOf, entryOf, entryLengthOf}
 use Rattle.counters.specs.declared.Counters.{Counters}
 use Rattle.counters.specs.Counters.{adopting}
 use Rattle.protocol.specs.Work.{Work, send, adopt}
@@ -40,24 +40,24 @@ use Rattle.event.proofs.Holding.{held-same, tip-adopted, hold-vote-long
 
 -- ---- the entry certificate lies in the memory
 module _ (m : List ℕ) (long : memoryLength ≤ length m) (few : length (entryOf m) ≤ entryRoom) where
-  pub entry-in : 16 + entryLengthOf m ≤ length m
+  pub entry-in : entryPlace + entryLengthOf m ≤ length m
   unfolding entryOf part
-  entry-in = omega (arith, few, length-take (entryLengthOf m) (drop 16 m), length-drop 16 m)
+  entry-in = omega (arith, few, length-take (entryLengthOf m) (drop entryPlace m), length-drop entryPlace m)
 
   pub entry-size : length (entryOf m) ≡ entryLengthOf m
   unfolding entryOf part
-  entry-size = omega (arith, few, length-take (entryLengthOf m) (drop 16 m), length-drop 16 m)
+  entry-size = omega (arith, few, length-take (entryLengthOf m) (drop entryPlace m), length-drop entryPlace m)
 
-pub entry-lent : (m : List ℕ) {k : ℕ} → k ≡ entryLengthOf m → take (16 + k - 16) (drop 16 m) ≡ entryOf m
+pub entry-lent : (m : List ℕ) {k : ℕ} → k ≡ entryLengthOf m → take (entryPlace + k - entryPlace) (drop entryPlace m) ≡ entryOf m
 unfolding entryOf
-entry-lent m {k} e = part-lent m 16 k ∙ rw e
+entry-lent m {k} e = part-lent m entryPlace k ∙ rw e
 
-pub safe-is : (m : List ℕ) {k : ℕ} {s : Settings} {c : Certificate} → k ≡ entryLengthOf m → s ≡ settingsOf m → c ≡ safeCertificate s (certificateOf (take (16 + k - 16) (drop 16 m))) → c ≡ safeOfEntry m
+pub safe-is : (m : List ℕ) {k : ℕ} {s : Settings} {c : Certificate} → k ≡ entryLengthOf m → s ≡ settingsOf m → c ≡ safeCertificate s (certificateOf (take (entryPlace + k - entryPlace) (drop entryPlace m))) → c ≡ safeOfEntry m
 unfolding safeOfEntry
 safe-is m e s c = c ∙ rw (s, entry-lent m e)
 
 pub own-proposal-is : (m : List ℕ) (v : ℕ) (x : Child) {k me : ℕ} → k ≡ entryLengthOf m → me ≡ ownOf m
-    → proposalBytes me v (x .name) (x .parent) (x .height .0) (take (16 + k - 16) (drop 16 m)) ≡ ownProposalBytes m v x
+    → proposalBytes me v (x .name) (x .parent) (x .height .0) (take (entryPlace + k - entryPlace) (drop entryPlace m)) ≡ ownProposalBytes m v x
 unfolding ownProposalBytes
 own-proposal-is m v x e i = rw (i, entry-lent m e)
 

@@ -13,6 +13,7 @@ use memory::BALLOT_ROWS;
 use memory::ENTRY_PLACE;
 use memory::TIMEOUT_ROWS;
 use memory::entry_length;
+use memory::leaders::put_leaders;
 use memory::own;
 use memory::put_block_count;
 use memory::put_entry;
@@ -32,6 +33,7 @@ ghost use mathlib.Core.Path.{_≡_};
 ghost use Prim.Native.Nat.{_+_, _≤_, _<_};
 ghost use lib.ListN.{length};
 ghost use Rattle.settings.specs.Quorum.{largest, lastHeight, replicas};
+ghost use Rattle.settings.specs.Opening.{mostLeaders};
 ghost use Rattle.codec.specs.Bytes.{patch};
 ghost use Rattle.codec.specs.Names.{zeroName};
 ghost use Rattle.wire.specs.Encode.{blockCertificateBytes};
@@ -132,13 +134,14 @@ fn genesis_record(own: u16) -> [u8; length::BLOCK_CERTIFICATE]
     rec
 }
 
-// What an opening leaves in the memory: no held block, the genesis certificate as entry certificate, and empty rows.
-pub fn open_memory(mem: &mut [u8], s: Settings, own: u16)
-    requires { ⌜ memoryLength ≤ length (now mem) ⌝ }
-    ensures { λ _. ⌜ now (mem .exit) ≡ openedMemory (now (mem .entry)) s own ⌝ }
+// What an opening leaves in the memory: the leader list, no held block, the genesis certificate as entry certificate, and empty rows.
+pub fn open_memory(mem: &mut [u8], s: Settings, own: u16, leaders: &[u8])
+    requires { ⌜ (memoryLength ≤ length (now mem)) × (length (now leaders) ≤ mostLeaders) ⌝ }
+    ensures { λ _. ⌜ now (mem .exit) ≡ openedMemory (now (mem .entry)) s own (now (leaders .entry)) ⌝ }
 {
     let entry = genesis_record(own);
     put_head(mem, s, own);
+    put_leaders(mem, leaders);
     put_block_count(mem, 0);
     put_entry(mem, &entry);
     drop_ballots(mem, View(0), BALLOT_ROWS);

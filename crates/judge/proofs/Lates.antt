@@ -13,6 +13,7 @@ use Rattle.wire.specs.Fields.{kindOf, senderOf, viewOf, nameOf, releaseHeightOf
 use Rattle.wire.specs.Content.{byBlock, byTimeouts, Content, vote, commit, certificate, timeout, proposal, block, release, timeoutOf, certificateOf, content}
 use Rattle.blocks.specs.declared.Found.{Found}
 use Rattle.memory.specs.Layout.{entryOf}
+use Rattle.memory.specs.Leaders.{byList}
 use Rattle.protocol.specs.Work.{Work, heldBlock}
 use Rattle.protocol.specs.Refusals.{safeName, child, misplaced, refusals, proposeRules}
 use Rattle.refusals.specs.Number.{firstOf, numbered}
@@ -74,7 +75,7 @@ module _ (W : Work) where
   abbrev pub lateOf : Content → List Rule
   lateOf k = let w = asked (W .memory) k in lateRules w (heldBlock W (w .name)) (heldBlock W (w .base)) k
 
-  pub early-late-number : (r : List ℕ) (k : Content) → firstOf (refusals W r k) ≡ firstOf (earlyRules W r k ++ lateOf k)
+  pub early-late-number : (r : List ℕ) (k : Content) → firstOf (refusals W byList r k) ≡ firstOf (earlyRules W r k ++ lateOf k)
   unfolding refusals earlyRules proposalRules votedRules asked lateRules chainRules sameFound misplacedOn storeFull
   early-late-number r (vote j v x) = refl
   early-late-number r (commit j v x) = refl
@@ -92,7 +93,7 @@ module _ (W : Work) where
   proposeLateOf x =
       let w = names (W .memory) x (safeBlock (W .memory) (certificateOf (entryOf (W .memory)))) in latePropose w (heldBlock W (w .name)) (heldBlock W (w .base))
 
-  pub propose-early-late-number : (x : List ℕ) → firstOf (proposeRules W x) ≡ firstOf (earlyPropose W x ++ proposeLateOf x)
+  pub propose-early-late-number : (x : List ℕ) → firstOf (proposeRules W byList x) ≡ firstOf (earlyPropose W x ++ proposeLateOf x)
   unfolding proposeRules earlyPropose latePropose storeFull
   propose-early-late-number x =
       let u = heldBlock W (safeName W (certificateOf (entryOf (W .memory)))) in
@@ -100,7 +101,7 @@ module _ (W : Work) where
       same-rule _ _ _ (same-rule _ _ _ (same-rule _ _ _ (past-held (u .is) (ltb lastHeight h) h _)))
 
   -- ---- no rule has the number of acceptance
-  pub refusals-numbered : (r : List ℕ) (k : Content) → numbered (refusals W r k) ≡ true
+  pub refusals-numbered : (r : List ℕ) (k : Content) → numbered (refusals W byList r k) ≡ true
   unfolding refusals numbered
   refusals-numbered r (vote j v x) = refl
   refusals-numbered r (commit j v x) = refl
@@ -122,7 +123,7 @@ module _ (W : Work) where
   early-numbered r (block j x y h) = refl
   early-numbered r (release j v x h) = refl
 
-  pub propose-numbered : (x : List ℕ) → (numbered (proposeRules W x) ≡ true) × (numbered (earlyPropose W x) ≡ true)
+  pub propose-numbered : (x : List ℕ) → (numbered (proposeRules W byList x) ≡ true) × (numbered (earlyPropose W x) ≡ true)
   unfolding proposeRules earlyPropose numbered
   propose-numbered x = (refl, refl)
 

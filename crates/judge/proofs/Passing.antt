@@ -11,6 +11,7 @@ use Rattle.wire.specs.Shape.{badLength, badKind, shapeRules}
 use Rattle.blocks.specs.declared.Block.{Block}
 use Rattle.blocks.specs.Store.{genesis}
 use Rattle.memory.specs.Layout.{memoryLength, settingsOf, entryOf, entryLengthOf}
+use Rattle.memory.specs.Leaders.{Listed}
 use Rattle.counters.specs.declared.Counters.{Counters}
 use Rattle.protocol.specs.Refusals.{regular, regionRules}
 use Rattle.refusals.specs.Number.{firstOf}
@@ -23,6 +24,7 @@ pub record Ready (c : Counters) (m : List ℕ) : Type 0 where
   pub few : replicas (settingsOf m) ≤ largest
   pub first : 0 < c .view .0
   pub entry : certificateSized (replicas (settingsOf m)) (entryOf m) ≡ true
+  pub listed : Listed m
 
 pub regions-ready : (c : Counters) (m : List ℕ) (s : List Block) (room : ℕ) → firstOf (regionRules (lent c m s) room) ≡ 0 → Ready c m
 unfolding regionRules
@@ -32,7 +34,7 @@ regions-ready c m s room e =
     let d = passes _ _ refl (b .1) in
     let f = passes _ _ refl (d .1) in
     let p = passed (lent c m s) (not-false (regular (lent c m s)) (f .0)) in
-    record { long = ltb-false (length m) memoryLength (a .0); few = p .few; first = p .view-first; entry = p .entry }
+    record { long = ltb-false (length m) memoryLength (a .0); few = p .few; first = p .view-first; entry = p .entry; listed = (p .leaders-some, p .leaders-most) }
 
 -- of a number that is the place's answer for every store of a length
 pub ready : (c : Counters) (m : List ℕ) (entries room k : ℕ) → ((s : List Block) → length s ≡ entries → k ≡ firstOf (regionRules (lent c m s) room)) → k ≡ 0 → Ready c m

@@ -10,6 +10,7 @@ use Rattle.settings.specs.Answer.{Rule, judge}
 use Rattle.wire.specs.Shape.{shapeRules, badLength, badKind}
 use Rattle.wire.specs.Content.{Content, vote, commit, certificate, timeout, proposal, block, release, certificateOf, content}
 use Rattle.memory.specs.Layout.{entryOf}
+use Rattle.memory.specs.Leaders.{byList}
 use Rattle.protocol.specs.Work.{Work, n}
 use Rattle.protocol.specs.Refusals.{regionRules, refusals, timerRules, proposeRules}
 use Rattle.protocol.specs.Events.{onRecord, onTimer, onPropose}
@@ -26,7 +27,7 @@ use Rattle.judge.proofs.Wants.{regions-numbered, shape-numbered}
 use Rattle.judge.proofs.Lates.{lateOf, early-late-number, proposeLateOf, propose-early-late-number, refusals-numbered, early-numbered, propose-numbered, late-numbered}
 
 -- ---- from 6 on: judging early, and then late with found and under as the store holds them
-pub early-late : {A : Type 0} (W : Work) (r : List ℕ) (k : Content) (a : A) → judge (refusals W r k) a ≡ judge (earlyRules W r k then lateOf W k) a
+pub early-late : {A : Type 0} (W : Work) (r : List ℕ) (k : Content) (a : A) → judge (refusals W byList r k) a ≡ judge (earlyRules W r k then lateOf W k) a
 early-late W r k a =
     answer-first _ a (refusals-numbered W r k) ∙ ap (λ (i : ℕ). answerOf i a) (early-late-number W r k)
     ∙ sym (answer-first _ a (numbered-then _ _ (early-numbered W r k) (late-numbered _ _ _ k)))
@@ -92,7 +93,7 @@ timer-numbered W v = refl
 module _ (W : Work) (room : ℕ) where
   -- ---- a record
   abbrev pub recordRules : List ℕ → List Rule
-  recordRules r = regionRules W room then shapeRules (n W) r then refusals W r (content r)
+  recordRules r = regionRules W room then shapeRules (n W) r then refusals W byList r (content r)
 
   -- 01's number of the whole: the refusal, if there is one before the store is asked, or else what is refused with what it holds
   abbrev pub recordNumber : List ℕ → ℕ
@@ -106,11 +107,11 @@ module _ (W : Work) (room : ℕ) where
       let b = shapeRules (n W) r in
       let e = earlyRules W r k in
       let l = recordLate W (asked (W .memory) k) k in
-      let tail : firstOf (refusals W r k) ≡ orElse (firstOf e) l =
+      let tail : firstOf (refusals W byList r k) ≡ orElse (firstOf e) l =
       early-late-number W r k ∙ first-then e (lateOf W k) (early-numbered W r k) ∙ ap (orElse (firstOf e)) (late-held W k) in
       let whole : firstOf (recordRules r) ≡ orElse (firstOf a) (orElse (firstOf b) (orElse (firstOf e) l)) =
-      first-then a (b ++ refusals W r k) (regions-numbered W room)
-      ∙ ap (orElse (firstOf a)) (first-then b (refusals W r k) (shape-numbered (n W) r) ∙ ap (orElse (firstOf b)) tail) in
+      first-then a (b ++ refusals W byList r k) (regions-numbered W room)
+      ∙ ap (orElse (firstOf a)) (first-then b (refusals W byList r k) (shape-numbered (n W) r) ∙ ap (orElse (firstOf b)) tail) in
       let first : firstOf (a ++ (b ++ e)) ≡ orElse (firstOf a) (orElse (firstOf b) (firstOf e)) =
       first-then a (b ++ e) (regions-numbered W room) ∙ ap (orElse (firstOf a)) (first-then b e (shape-numbered (n W) r)) in
       whole ∙ ap (orElse (firstOf a)) (else-assoc (firstOf b) (firstOf e) l) ∙ else-assoc (firstOf a) (orElse (firstOf b) (firstOf e)) l
@@ -140,7 +141,7 @@ module _ (W : Work) (room : ℕ) where
 
   -- ---- propose
   abbrev pub nameRules : List ℕ → List Rule
-  nameRules x = regionRules W room then proposeRules W x
+  nameRules x = regionRules W room then proposeRules W byList x
 
   abbrev pub nameNumber : List ℕ → ℕ
   nameNumber x = let w = proposeWant W room x in orElse (w .refusal) (proposeLate W w)
@@ -152,9 +153,9 @@ module _ (W : Work) (room : ℕ) where
       let e = earlyPropose W x in
       let w = names (W .memory) x (safeBlock (W .memory) (certificateOf (entryOf (W .memory)))) in
       let l = proposeLate W w in
-      let tail : firstOf (proposeRules W x) ≡ orElse (firstOf e) l =
+      let tail : firstOf (proposeRules W byList x) ≡ orElse (firstOf e) l =
       propose-early-late-number W x ∙ first-then e (proposeLateOf W x) (propose-numbered W x .1) ∙ ap (orElse (firstOf e)) (propose-late-held W x) in
-      first-then a (proposeRules W x) (regions-numbered W room) ∙ ap (orElse (firstOf a)) tail ∙ else-assoc (firstOf a) (firstOf e) l
+      first-then a (proposeRules W byList x) (regions-numbered W room) ∙ ap (orElse (firstOf a)) tail ∙ else-assoc (firstOf a) (firstOf e) l
       ∙ ap (λ (i : ℕ). orElse i l) (sym (first-then a e (regions-numbered W room)))
       ∙ chosen (firstOf (a ++ e)) w (λ (v : Want). proposeLate W v) refl
 
@@ -175,11 +176,11 @@ module _ (W : Work) (room : ℕ) where
 
 -- ---- the calls
 module _ (r : Replica) (room : ℕ) where
-  pub record-core : (bytes : List ℕ) → recordCore r room bytes ≡ answerOf (recordNumber (begin r) room bytes) (settle (onRecord bytes (content bytes) (begin r)))
+  pub record-core : (bytes : List ℕ) → recordCore byList r room bytes ≡ answerOf (recordNumber (begin r) room bytes) (settle (onRecord bytes (content bytes) (begin r)))
   unfolding recordCore
   record-core bytes = record-judged (begin r) room bytes _
 
-  pub propose-core : (x : List ℕ) → proposeCore r room x ≡ answerOf (nameNumber (begin r) room x) (settle (onPropose x (begin r)))
+  pub propose-core : (x : List ℕ) → proposeCore byList r room x ≡ answerOf (nameNumber (begin r) room x) (settle (onPropose x (begin r)))
   unfolding proposeCore
   propose-core x = propose-judged (begin r) room x _
 

@@ -16,6 +16,7 @@ use Rattle.blocks.specs.declared.Found.{Found}
 use Rattle.blocks.specs.Store.{genesis, ancestry, releases}
 use Rattle.memory.specs.Layout.{blockCountOf}
 use Rattle.memory.specs.Window.{lowest}
+use Rattle.memory.specs.Leaders.{byList}
 use Rattle.protocol.specs.Work.{Work, own, viewNow, tip, blocks, heldBlock, release}
 use Rattle.protocol.specs.Refusals.{storeLength}
 use Rattle.protocol.specs.Events.{onRecord, onTimer, onPropose}
@@ -32,7 +33,7 @@ use Rattle.event.proofs.Giving.{set-nowhere}
 use Rattle.rules.specs.Phases.{phases}
 use Rattle.rules.proofs.Running.{settle-is}
 use Rattle.perform.specs.declared.Done.{Done}
-use Rattle.perform.specs.Perform.{fresh, refusal, Performs, timerNumber, TimerJudged, proposeNumber, ProposeFound, recordNumber, RecordFound}
+use Rattle.perform.specs.Perform.{fresh, Performs, timerNumber, TimerJudged, proposeNumber, ProposeFound, recordNumber, RecordFound}
 use Rattle.perform.proofs.Deciding.{timer-room, propose-room, record-room}
 
 -- ---- rule D: nothing is unwritten
@@ -128,27 +129,27 @@ module _ (R : Replica) (o : List ℕ) (short : length (R .store) < 2 ^ 64) (e : 
 
   module _ (r : List ℕ) (w : Want) (found under : Found) (g : RecordFound (length o) r w found under (begin R))
       (p : Performs (recordNumber (length o) r) (onRecord r (content r)) (RecordFound (length o) r w found under) (R .counters) (R .memory) o e m′ o′) where
-    pub record-does : recordCore R (length o) r ≡ answerOf (e .refusal) done
+    pub record-does : recordCore byList R (length o) r ≡ answerOf (e .refusal) done
     unfolding recordNumber
     record-does =
         record-core R (length o) r
         ∙ performs-answer (recordNumber (length o) r) (onRecord r (content r)) (RecordFound (length o) r w found under) R p short g
         (λ z. record-room (length o) r (begin R) (sym (p .number (R .store) short g) ∙ z))
 
-    pub record-outcome : {d₂ : Draft} {m₂ o₂ : List ℕ} {s₂ : List Block} → left d₂ m₂ o₂ s₂ ≡ leftBy done o′ → recordCall R o r ≡ inHand d₂ m₂ o₂ s₂
+    pub record-outcome : {d₂ : Draft} {m₂ o₂ : List ℕ} {s₂ : List Block} → left d₂ m₂ o₂ s₂ ≡ leftBy done o′ → recordCall byList R o r ≡ inHand d₂ m₂ o₂ s₂
     unfolding recordCall
     record-outcome x = ap (outcome R o) record-does ∙ performs-outcome (recordNumber (length o) r) (onRecord r (content r)) (RecordFound (length o) r w found under) R p short g x
 
   module _ (x : List ℕ) (w : Want) (found under : Found) (g : ProposeFound (length o) x w found under (begin R))
       (p : Performs (proposeNumber (length o) x) (onPropose x) (ProposeFound (length o) x w found under) (R .counters) (R .memory) o e m′ o′) where
-    pub propose-does : proposeCore R (length o) x ≡ answerOf (e .refusal) done
+    pub propose-does : proposeCore byList R (length o) x ≡ answerOf (e .refusal) done
     unfolding proposeNumber
     propose-does =
         propose-core R (length o) x
         ∙ performs-answer (proposeNumber (length o) x) (onPropose x) (ProposeFound (length o) x w found under) R p short g
         (λ z. propose-room (length o) x (begin R) (sym (p .number (R .store) short g) ∙ z))
 
-    pub propose-outcome : {d₂ : Draft} {m₂ o₂ : List ℕ} {s₂ : List Block} → left d₂ m₂ o₂ s₂ ≡ leftBy done o′ → proposeCall R o x ≡ inHand d₂ m₂ o₂ s₂
+    pub propose-outcome : {d₂ : Draft} {m₂ o₂ : List ℕ} {s₂ : List Block} → left d₂ m₂ o₂ s₂ ≡ leftBy done o′ → proposeCall byList R o x ≡ inHand d₂ m₂ o₂ s₂
     unfolding proposeCall
     propose-outcome y = ap (outcome R o) propose-does ∙ performs-outcome (proposeNumber (length o) x) (onPropose x) (ProposeFound (length o) x w found under) R p short g y
 

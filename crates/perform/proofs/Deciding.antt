@@ -19,6 +19,7 @@ use Rattle.blocks.specs.declared.Block.{Block}
 use Rattle.blocks.specs.declared.Found.{Found}
 use Rattle.memory.specs.Layout.{entryRoom, blockCountOf}
 use Rattle.counters.specs.declared.Counters.{Counters}
+use Rattle.memory.specs.Leaders.{byList}
 use Rattle.protocol.specs.Work.{Work, n, heldBlock}
 use Rattle.protocol.specs.Events.{onRecord, onPropose}
 use Rattle.protocol.specs.Refusals.{storeLength, regionRules, refusals, timerRules, proposeRules, isHeld, misplaced, nextBlock}
@@ -63,9 +64,9 @@ timer-room room v W e = store-room W room (quiet-then (regionRules W room) (time
 
 -- ---- propose
 module _ (room : ℕ) (x : List ℕ) (W : Work) where
-  propose-quiet : proposeNumber room x W ≡ 0 → Quiet (regionRules W room) × Quiet (proposeRules W x)
+  propose-quiet : proposeNumber room x W ≡ 0 → Quiet (regionRules W room) × Quiet (proposeRules W byList x)
   unfolding proposeNumber
-  propose-quiet e = quiet-then (regionRules W room) (proposeRules W x) (quiet-of _ _ (λ a. propose-judged W room x a) e)
+  propose-quiet e = quiet-then (regionRules W room) (proposeRules W byList x) (quiet-of _ _ (λ a. propose-judged W room x a) e)
 
   pub propose-room : proposeNumber room x W ≡ 0 → storeLength ≤ length (W .store)
   propose-room e = store-room W room (propose-quiet e .0)
@@ -125,11 +126,11 @@ propose-accepts c m o x w found under a e h z =
 
 -- ---- a record
 module _ (room : ℕ) (r : List ℕ) (W : Work) where
-  record-quiet : recordNumber room r W ≡ 0 → Quiet (regionRules W room) × (Quiet (shapeRules (n W) r) × Quiet (refusals W r (content r)))
+  record-quiet : recordNumber room r W ≡ 0 → Quiet (regionRules W room) × (Quiet (shapeRules (n W) r) × Quiet (refusals W byList r (content r)))
   unfolding recordNumber
   record-quiet e =
-      let q = quiet-then (regionRules W room) (shapeRules (n W) r ++ refusals W r (content r)) (quiet-of _ _ (λ a. record-judged W room r a) e) in
-      (q .0, quiet-then (shapeRules (n W) r) (refusals W r (content r)) (q .1))
+      let q = quiet-then (regionRules W room) (shapeRules (n W) r ++ refusals W byList r (content r)) (quiet-of _ _ (λ a. record-judged W room r a) e) in
+      (q .0, quiet-then (shapeRules (n W) r) (refusals W byList r (content r)) (q .1))
 
   pub record-room : recordNumber room r W ≡ 0 → storeLength ≤ length (W .store)
   record-room e = store-room W room (record-quiet e .0)

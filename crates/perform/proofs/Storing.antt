@@ -23,6 +23,7 @@ use Rattle.wire.proofs.Facts.{Quiet}
 use Rattle.blocks.specs.declared.Block.{Block}
 use Rattle.blocks.specs.Store.{found, find, held}
 use Rattle.memory.specs.Layout.{entryOf, blockCountOf}
+use Rattle.memory.specs.Leaders.{byList}
 use Rattle.protocol.specs.Work.{Work, settings, n, heldBlock}
 use Rattle.protocol.specs.Events.{onRecord, onPropose}
 use Rattle.protocol.specs.Refusals.{storeLength, regular, refusals, proposeRules, noRoom, safeName}
@@ -174,11 +175,11 @@ module _ (d : Draft) (m o : List ℕ) {size : ℕ} (a : Ready d m o size) (ct : 
         }
 
     -- of another kind: no test asks the store
-    refusals-same : (s′ : List Block) → (kindOf r ≡ 7 → ⊥) → (kindOf r ≡ 8 → ⊥) → refusals (workOf d m o s) r (content r) ≡ refusals (workOf d m o s′) r (content r)
+    refusals-same : (s′ : List Block) → (kindOf r ≡ 7 → ⊥) → (kindOf r ≡ 8 → ⊥) → refusals (workOf d m o s) byList r (content r) ≡ refusals (workOf d m o s′) byList r (content r)
     unfolding content refusals
     refusals-same s′ k7 k8 = rw (ne-eqb (kindOf r) 7 k7, ne-eqb (kindOf r) 8 k8) (go (eqb (kindOf r) 1) (eqb (kindOf r) 2) (eqb (kindOf r) 5) (eqb (kindOf r) 9))
       where
-        by : (k : Certificate) → refusals (workOf d m o s) r (certificate (senderOf r) k) ≡ refusals (workOf d m o s′) r (certificate (senderOf r) k)
+        by : (k : Certificate) → refusals (workOf d m o s) byList r (certificate (senderOf r) k) ≡ refusals (workOf d m o s′) byList r (certificate (senderOf r) k)
         by (byBlock v x g) = refl
         by (byTimeouts v ts) = refl
 
@@ -187,14 +188,14 @@ module _ (d : Draft) (m o : List ℕ) {size : ℕ} (a : Ready d m o size) (ct : 
             cond a (vote (senderOf r) (viewOf r) (nameOf r)) (cond b (commit (senderOf r) (viewOf r) (nameOf r)) (cond c (timeout (timeoutOf r))
             (cond e (release (senderOf r) (viewOf r) (nameOf r) (releaseHeightOf r)) (certificate (senderOf r) (certificateOf r)))))
 
-        go : (a b c e : Bool) → refusals (workOf d m o s) r (of a b c e) ≡ refusals (workOf d m o s′) r (of a b c e)
+        go : (a b c e : Bool) → refusals (workOf d m o s) byList r (of a b c e) ≡ refusals (workOf d m o s′) byList r (of a b c e)
         go true b c e = refl
         go false true c e = refl
         go false false true e = refl
         go false false false true = refl
         go false false false false = by (certificateOf r)
 
-    other-witness : (kindOf r ≡ 7 → ⊥) → (kindOf r ≡ 8 → ⊥) → Quiet (refusals (workOf d m o s) r (content r)) → Witness (onRecord r (content r)) (Asked r t)
+    other-witness : (kindOf r ≡ 7 → ⊥) → (kindOf r ≡ 8 → ⊥) → Quiet (refusals (workOf d m o s) byList r (content r)) → Witness (onRecord r (content r)) (Asked r t)
     other-witness k7 k8 q =
         record {
           store = emptyStore;
@@ -203,7 +204,7 @@ module _ (d : Draft) (m o : List ℕ) {size : ℕ} (a : Ready d m o size) (ct : 
           done = record-done (workOf d m o emptyStore) r br sq (rw (← refusals-same emptyStore k7 k8) q) (ready-regular d m o a ct bm);
         }
 
-    pub record-witness : Quiet (refusals (workOf d m o s) r (content r)) → Witness (onRecord r (content r)) (Asked r t)
+    pub record-witness : Quiet (refusals (workOf d m o s) byList r (content r)) → Witness (onRecord r (content r)) (Asked r t)
     record-witness q = go (eqb (kindOf r) 7) (eqb (kindOf r) 8) refl refl
       where
         go : (p₇ p₈ : Bool) → eqb (kindOf r) 7 ≡ p₇ → eqb (kindOf r) 8 ≡ p₈ → Witness (onRecord r (content r)) (Asked r t)
@@ -213,7 +214,7 @@ module _ (d : Draft) (m o : List ℕ) {size : ℕ} (a : Ready d m o size) (ct : 
 
   -- ---- propose
   module _ (x : List ℕ) (nx : IsName x) (h : ℕ) (low : h < lastHeight) (s : List Block) (g : Proposable x h (workOf d m o s)) where
-    pub propose-witness : Quiet (proposeRules (workOf d m o s) x) → Witness (onPropose x) (Proposable x h)
+    pub propose-witness : Quiet (proposeRules (workOf d m o s) byList x) → Witness (onPropose x) (Proposable x h)
     unfolding proposeRules safeOfEntry
     propose-witness q =
         let W = workOf d m o s in
@@ -229,7 +230,7 @@ module _ (d : Draft) (m o : List ℕ) {size : ℕ} (a : Ready d m o size) (ct : 
         let is′ : heldBlock W′ y .is ≡ true = row-holds tip b s y i 127 is (same-refl y) in
         let at : heldBlock W′ y .block .height .0 ≡ heldBlock W y .block .height .0 = row-height tip b s y i 127 is (same-refl y) (sym (g .height)) in
         let new : heldBlock W′ x .is ≡ false = row-lacks tip b s x i storeLength (g .new) (apart y is) in
-        let Q : Quiet (proposeRules W′ x) = (
+        let Q : Quiet (proposeRules W′ byList x) = (
           q .0,
           (
             q .1 .0,

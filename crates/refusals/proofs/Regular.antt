@@ -8,11 +8,11 @@ use borrow.Author.Tests.{ne-eqb, leb-true, ltb-true, eqb-true}
 use lib.Dec.{eqb, leb, ltb}
 use lib.ListN.{length, drop, length-take, length-drop}
 use Rattle.settings.specs.Quorum.{largest, lastView}
-use Rattle.settings.specs.Opening.{inBound}
+use Rattle.settings.specs.Opening.{inBound, mostLeaders}
 use Rattle.codec.specs.Bytes.{part}
 use Rattle.codec.proofs.Order.{and-true}
 use Rattle.wire.specs.Fields.{kindOf, countOf}
-use Rattle.memory.specs.Layout.{memoryLength, entryLengthOf, entryOf, blockCountOf}
+use Rattle.memory.specs.Layout.{memoryLength, entryPlace, entryLengthOf, entryOf, blockCountOf, leaderCountOf}
 use Rattle.protocol.specs.Work.{Work, settings, n, own, viewNow}
 use Rattle.protocol.specs.Refusals.{storeLength, regular}
 use Rattle.refusals.specs.Early.{certificateSized}
@@ -30,7 +30,7 @@ sized-by n r h g = go (eqb (kindOf r) 3) (eqb (kindOf r) 6) (leb (countOf r) n) 
 
 entry-length : (m : List ℕ) → (entryLengthOf m < 24 → length (entryOf m) < 24) × (memoryLength ≤ length m → 3608 < entryLengthOf m → 3608 < length (entryOf m))
 unfolding entryOf part
-entry-length m = (λ h. omega (arith, length-take (entryLengthOf m) (drop 16 m)), λ l h. omega (arith, length-take (entryLengthOf m) (drop 16 m), length-drop 16 m))
+entry-length m = (λ h. omega (arith, length-take (entryLengthOf m) (drop entryPlace m)), λ l h. omega (arith, length-take (entryLengthOf m) (drop entryPlace m), length-drop entryPlace m))
 
 pub sized-short : (n : ℕ) (m : List ℕ) → entryLengthOf m < 24 → certificateSized n (entryOf m) ≡ false
 sized-short n m h = let s = entry-length m .0 h in sized-by n (entryOf m) (λ e. omega arith) (λ k e. omega arith)
@@ -56,7 +56,8 @@ and-regroup false b c d = refl
 
 module _ (W : Work) where
   pub regular-is : regular W ≡ ((leb (n W) largest && (inBound (settings W) && ltb (own W) (n W)))
-      && (leb 1 (viewNow W) && (leb (viewNow W) lastView && (leb (blockCountOf (W .memory)) storeLength && certificateSized (n W) (entryOf (W .memory))))))
+      && (leb 1 (viewNow W) && (leb (viewNow W) lastView && (leb (blockCountOf (W .memory)) storeLength && (certificateSized (n W) (entryOf (W .memory))
+      && (leb 1 (leaderCountOf (W .memory)) && leb (leaderCountOf (W .memory)) mostLeaders))))))
   unfolding regular certificateSized
   regular-is = and-regroup (leb (n W) largest) (inBound (settings W)) (ltb (own W) (n W)) _
 
@@ -67,6 +68,8 @@ module _ (W : Work) where
     pub view-first : 1 ≤ viewNow W
     pub view-last : viewNow W ≤ lastView
     pub entry : certificateSized (n W) (entryOf (W .memory)) ≡ true
+    pub leaders-some : 0 < leaderCountOf (W .memory)
+    pub leaders-most : leaderCountOf (W .memory) ≤ mostLeaders
 
   pub passed : regular W ≡ true → Passed
   passed e =
@@ -74,10 +77,14 @@ module _ (W : Work) where
       let s = and-true _ _ (a .0) in
       let b = and-true _ _ (a .1) in
       let v = and-true _ _ (b .1) in
+      let t = and-true _ _ (and-true (leb (blockCountOf (W .memory)) storeLength) _ (v .1) .1) in
+      let l = and-true _ _ (t .1) in
       record {
         few = leb-true _ _ (s .0);
         member = ltb-true _ _ (and-true (inBound (settings W)) _ (s .1) .1);
         view-first = leb-true _ _ (b .0);
         view-last = leb-true _ _ (v .0);
-        entry = and-true (leb (blockCountOf (W .memory)) storeLength) _ (v .1) .1;
+        entry = t .0;
+        leaders-some = leb-true _ _ (l .0);
+        leaders-most = leb-true _ _ (l .1);
       }

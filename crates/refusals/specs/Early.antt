@@ -1,5 +1,5 @@
 -- The refusals of a record and of propose up to what the store is asked (01: Refusals, by place): the lists of `protocol`, cut where a held block
--- is first looked up. Assumes nothing.
+-- is first looked up, with the leader by the list. Assumes nothing.
 use Prim.Native.Nat.{ℕ, suc, _+_, _*_}
 use mathlib.Core.Bool.{Bool, cond, not, _&&_, _||_}
 use mathlib.Core.List.{List, [], _∷_}
@@ -13,7 +13,8 @@ use Rattle.wire.specs.Content.{Certificate, Content, vote, commit, certificate,
 use Rattle.certificate.specs.Good.{progressGood}
 use Rattle.blocks.specs.declared.Block.{Block}
 use Rattle.memory.specs.Kept.{has, kept}
-use Rattle.memory.specs.Window.{lowest, leaderOf}
+use Rattle.memory.specs.Window.{lowest}
+use Rattle.memory.specs.Leaders.{byList}
 use Rattle.counters.specs.declared.Counters.{Counters}
 use Rattle.protocol.specs.Work.{Work, settings, n, own, viewNow, timed, highView}
 use Rattle.protocol.specs.Refusals.{notOther, belowView, aboveWindow, viewOfProgress, refusals}
@@ -56,7 +57,7 @@ module _ (W : Work) where
   -- kind 7: 6 to 9, and what 10 and 11 say of the high vote
   unfoldable pub proposalRules : ℕ → ℕ → List ℕ → Certificate → List Rule
   proposalRules j v x k =
-      (notOther W j || (ltb 0 v && not (eqb j (leaderOf (settings W) v)))) ⇒ 6
+      (notOther W j || (ltb 0 v && not (eqb j (byList (W .memory) v)))) ⇒ 6
       ∷ belowView W v ⇒ 7
       ∷ leb lastView v ⇒ 8
       ∷ (not (progressGood (settings W) k && eqb (suc (viewOfProgress k)) v)) ⇒ 9
@@ -64,17 +65,17 @@ module _ (W : Work) where
 
   -- every kind
   unfoldable pub earlyRules : List ℕ → Content → List Rule
-  earlyRules r (vote j v x) = refusals W r (vote j v x)
-  earlyRules r (commit j v x) = refusals W r (commit j v x)
-  earlyRules r (certificate j k) = refusals W r (certificate j k)
-  earlyRules r (timeout t) = refusals W r (timeout t)
+  earlyRules r (vote j v x) = refusals W byList r (vote j v x)
+  earlyRules r (commit j v x) = refusals W byList r (commit j v x)
+  earlyRules r (certificate j k) = refusals W byList r (certificate j k)
+  earlyRules r (timeout t) = refusals W byList r (timeout t)
   earlyRules r (proposal j v x y h k) = proposalRules j v x k
   earlyRules r (block j x y h) = leb (n W) j ⇒ 6 ∷ []
-  earlyRules r (release j v x h) = refusals W r (release j v x h)
+  earlyRules r (release j v x h) = refusals W byList r (release j v x h)
 
   -- propose: 15 and 5
   unfoldable pub earlyPropose : List ℕ → List Rule
   earlyPropose x =
-      (not (eqb (leaderOf (settings W) (viewNow W)) (own W)) || (leb (viewNow W) (timed W) || (eqb (highView W) (viewNow W) || leb lastView (viewNow W)))) ⇒ 15
+      (not (eqb (byList (W .memory) (viewNow W)) (own W)) || (leb (viewNow W) (timed W) || (eqb (highView W) (viewNow W) || leb lastView (viewNow W)))) ⇒ 15
       ∷ sameBytes x zeroName ⇒ 5
       ∷ []

@@ -16,9 +16,9 @@ use memory::kept::entry_at;
 use memory::kept::has;
 use memory::kept::timeout_row;
 use memory::kept::vote_row;
+use memory::leaders::leader;
 use memory::own;
 use memory::settings;
-use memory::window::leader;
 use memory::window::lowest;
 use settings::Settings;
 use settings::View;
@@ -44,7 +44,7 @@ ghost use Rattle.wire.specs.declared.Progress.the-variants.{Block, Timeouts};
 ghost use Rattle.wire.specs.Content.{vote, commit, timeout, certificate, timeoutOf, certificateOf, content, progressMeans, Within};
 ghost use Rattle.certificate.specs.Good.{progressGood};
 ghost use Rattle.memory.specs.Layout.{memoryLength, rowSize, settingsOf, ownOf, entryPlace};
-ghost use Rattle.memory.specs.Window.{leaderOf};
+ghost use Rattle.memory.specs.Leaders.{Listed, byList};
 ghost use Rattle.protocol.specs.Refusals.{refusals, viewOfProgress};
 ghost use Rattle.refusals.specs.Number.{firstOf};
 ghost use Rattle.refusals.specs.Early.{lent, ballotRules, keptRules, votedRules, proposalRules, earlyRules, earlyPropose};
@@ -108,7 +108,7 @@ fn ballot(c: Counters, mem: &[u8], row: usize, sender: u64, vote: Vote) -> u64
 
 fn vote_early(c: Counters, mem: &[u8], rec: &[u8]) -> u64
     requires { ⌜ (memoryLength ≤ length (now mem)) × ((replicas (settingsOf (now mem)) ≤ largest) × (voteLength ≤ length (now rec))) ⌝ }
-    ensures { λ r. ⌜ r ≡ firstOf (refusals (lent c (now (mem .entry)) []) (now (rec .entry)) (vote (senderOf (now (rec .entry))) (viewOf (now (rec .entry))) (nameOf (now (rec .entry))))) ⌝ }
+    ensures { λ r. ⌜ r ≡ firstOf (refusals (lent c (now (mem .entry)) []) byList (now (rec .entry)) (vote (senderOf (now (rec .entry))) (viewOf (now (rec .entry))) (nameOf (now (rec .entry))))) ⌝ }
 {
     let v = vote(rec, 8);
     let row = vote_row(v.view);
@@ -117,7 +117,7 @@ fn vote_early(c: Counters, mem: &[u8], rec: &[u8]) -> u64
 
 fn commit_early(c: Counters, mem: &[u8], rec: &[u8]) -> u64
     requires { ⌜ (memoryLength ≤ length (now mem)) × ((replicas (settingsOf (now mem)) ≤ largest) × (voteLength ≤ length (now rec))) ⌝ }
-    ensures { λ r. ⌜ r ≡ firstOf (refusals (lent c (now (mem .entry)) []) (now (rec .entry)) (commit (senderOf (now (rec .entry))) (viewOf (now (rec .entry))) (nameOf (now (rec .entry))))) ⌝ }
+    ensures { λ r. ⌜ r ≡ firstOf (refusals (lent c (now (mem .entry)) []) byList (now (rec .entry)) (commit (senderOf (now (rec .entry))) (viewOf (now (rec .entry))) (nameOf (now (rec .entry))))) ⌝ }
 {
     let v = vote(rec, 8);
     let row = commit_row(v.view);
@@ -127,7 +127,7 @@ fn commit_early(c: Counters, mem: &[u8], rec: &[u8]) -> u64
 // Kind 3. It has no window: a certificate of any view below the last may be above the lock.
 fn block_certificate_early(c: Counters, mem: &[u8], rec: &[u8], b: BlockCertificate) -> u64
     requires { ⌜ (entryPlace ≤ length (now mem)) × ((headerLength ≤ length (now rec)) × Within (now rec) (Block b)) ⌝ }
-    ensures { λ r. ⌜ r ≡ firstOf (refusals (lent c (now (mem .entry)) []) (now (rec .entry)) (certificate (senderOf (now (rec .entry))) (progressMeans (now (rec .entry)) (Block b)))) ⌝ }
+    ensures { λ r. ⌜ r ≡ firstOf (refusals (lent c (now (mem .entry)) []) byList (now (rec .entry)) (certificate (senderOf (now (rec .entry))) (progressMeans (now (rec .entry)) (Block b)))) ⌝ }
 {
     let s = settings(mem);
     if s.n() <= u16_at(rec, 6) as u64 {
@@ -151,7 +151,7 @@ fn block_certificate_early(c: Counters, mem: &[u8], rec: &[u8], b: BlockCertific
 // Kind 6.
 fn timeout_certificate_early(c: Counters, mem: &[u8], rec: &[u8], t: TimeoutCertificate) -> u64
     requires { ⌜ (entryPlace ≤ length (now mem)) × ((headerLength ≤ length (now rec)) × Within (now rec) (Timeouts t)) ⌝ }
-    ensures { λ r. ⌜ r ≡ firstOf (refusals (lent c (now (mem .entry)) []) (now (rec .entry)) (certificate (senderOf (now (rec .entry))) (progressMeans (now (rec .entry)) (Timeouts t)))) ⌝ }
+    ensures { λ r. ⌜ r ≡ firstOf (refusals (lent c (now (mem .entry)) []) byList (now (rec .entry)) (certificate (senderOf (now (rec .entry))) (progressMeans (now (rec .entry)) (Timeouts t)))) ⌝ }
 {
     let s = settings(mem);
     if s.n() <= u16_at(rec, 6) as u64 {
@@ -173,7 +173,7 @@ fn timeout_certificate_early(c: Counters, mem: &[u8], rec: &[u8], t: TimeoutCert
 // Kinds 3 and 6: a certificate that is a record of its own.
 fn certificate_early(c: Counters, mem: &[u8], rec: &[u8]) -> u64
     requires { ⌜ (entryPlace ≤ length (now mem)) × ((certificateLength (now rec) ≡ false) × (certificateKindBad (now rec) ≡ false)) ⌝ }
-    ensures { λ r. ⌜ r ≡ firstOf (refusals (lent c (now (mem .entry)) []) (now (rec .entry)) (certificate (senderOf (now (rec .entry))) (certificateOf (now (rec .entry))))) ⌝ }
+    ensures { λ r. ⌜ r ≡ firstOf (refusals (lent c (now (mem .entry)) []) byList (now (rec .entry)) (certificate (senderOf (now (rec .entry))) (certificateOf (now (rec .entry))))) ⌝ }
 {
     let read = progress(rec, 0);
     match read {
@@ -200,7 +200,7 @@ fn timeout_kept(mem: &[u8], row: usize, sender: u64, rec: &[u8]) -> u64
 // Kind 5.
 fn timeout_early(c: Counters, mem: &[u8], rec: &[u8]) -> u64
     requires { ⌜ (memoryLength ≤ length (now mem)) × ((replicas (settingsOf (now mem)) ≤ largest) × (timeoutLength ≤ length (now rec))) ⌝ }
-    ensures { λ r. ⌜ r ≡ firstOf (refusals (lent c (now (mem .entry)) []) (now (rec .entry)) (timeout (timeoutOf (now (rec .entry))))) ⌝ }
+    ensures { λ r. ⌜ r ≡ firstOf (refusals (lent c (now (mem .entry)) []) byList (now (rec .entry)) (timeout (timeoutOf (now (rec .entry))))) ⌝ }
 {
     let sender = u16_at(rec, 6) as u64;
     let v = View(u64_at(rec, 8));
@@ -221,8 +221,8 @@ fn timeout_early(c: Counters, mem: &[u8], rec: &[u8]) -> u64
 
 // 6 of kind 7: not by another replica, or not by the leader of its view.
 fn not_leader(mem: &[u8], sender: u64, v: View) -> bool
-    requires { ⌜ entryPlace ≤ length (now mem) ⌝ }
-    ensures { λ r. ⌜ r ≡ ((leb (replicas (settingsOf (now (mem .entry)))) sender || eqb sender (ownOf (now (mem .entry)))) || (ltb 0 (v .0) && not (eqb sender (leaderOf (settingsOf (now (mem .entry))) (v .0))))) ⌝ }
+    requires { ⌜ (entryPlace ≤ length (now mem)) × Listed (now mem) ⌝ }
+    ensures { λ r. ⌜ r ≡ ((leb (replicas (settingsOf (now (mem .entry)))) sender || eqb sender (ownOf (now (mem .entry)))) || (ltb 0 (v .0) && not (eqb sender (byList (now (mem .entry)) (v .0))))) ⌝ }
 {
     if not_other(mem, sender) {
         return true;
@@ -230,7 +230,7 @@ fn not_leader(mem: &[u8], sender: u64, v: View) -> bool
     if v.0 == 0 {
         return false;
     }
-    sender != leader(settings(mem), v)
+    sender != leader(mem, v)
 }
 
 // The view of a progress certificate.
@@ -275,7 +275,7 @@ fn voted(c: Counters, v: View, name: [u8; 32]) -> u64
 
 // Kind 7, up to the high vote.
 fn proposal_early(c: Counters, mem: &[u8], rec: &[u8]) -> u64
-    requires { ⌜ (entryPlace ≤ length (now mem)) × ((proposalHead + headerLength ≤ length (now rec)) × ((certificateLength (progressOf (now rec)) ≡ false) × (certificateKindBad (progressOf (now rec)) ≡ false))) ⌝ }
+    requires { ⌜ (entryPlace ≤ length (now mem)) × (Listed (now mem) × ((proposalHead + headerLength ≤ length (now rec)) × ((certificateLength (progressOf (now rec)) ≡ false) × (certificateKindBad (progressOf (now rec)) ≡ false)))) ⌝ }
     ensures { λ r. ⌜ r ≡ firstOf (proposalRules (lent c (now (mem .entry)) []) (senderOf (now (rec .entry))) (viewOf (now (rec .entry))) (nameOf (now (rec .entry))) (certificateOf (progressOf (now (rec .entry))))) ⌝ }
 {
     let v = View(u64_at(rec, 8));
@@ -308,7 +308,7 @@ fn block_early(mem: &[u8], rec: &[u8]) -> u64
 
 // Every kind: a record that has its shape, in regions that pass 2.
 pub fn early(c: Counters, mem: &[u8], rec: &[u8]) -> u64
-    requires { ⌜ (memoryLength ≤ length (now mem)) × ((replicas (settingsOf (now mem)) ≤ largest) × ((badLength (now rec) ≡ false) × (badKind (now rec) ≡ false))) ⌝ }
+    requires { ⌜ (memoryLength ≤ length (now mem)) × ((replicas (settingsOf (now mem)) ≤ largest) × (Listed (now mem) × ((badLength (now rec) ≡ false) × (badKind (now rec) ≡ false)))) ⌝ }
     ensures { λ r. ⌜ r ≡ firstOf (earlyRules (lent c (now (mem .entry)) []) (now (rec .entry)) (content (now (rec .entry)))) ⌝ }
 {
     let kind = u16_at(rec, 4);
@@ -332,10 +332,10 @@ pub fn early(c: Counters, mem: &[u8], rec: &[u8]) -> u64
 
 // 15: propose out of turn.
 fn not_in_turn(c: Counters, mem: &[u8]) -> bool
-    requires { ⌜ (entryPlace ≤ length (now mem)) × (0 < c .view .0) ⌝ }
-    ensures { λ r. ⌜ r ≡ (not (eqb (leaderOf (settingsOf (now (mem .entry))) (c .view .0)) (ownOf (now (mem .entry)))) || (leb (c .view .0) (c .timed .0) || (eqb (c .high .view .0) (c .view .0) || leb lastView (c .view .0)))) ⌝ }
+    requires { ⌜ (entryPlace ≤ length (now mem)) × (Listed (now mem) × (0 < c .view .0)) ⌝ }
+    ensures { λ r. ⌜ r ≡ (not (eqb (byList (now (mem .entry)) (c .view .0)) (ownOf (now (mem .entry)))) || (leb (c .view .0) (c .timed .0) || (eqb (c .high .view .0) (c .view .0) || leb lastView (c .view .0)))) ⌝ }
 {
-    if leader(settings(mem), c.view) != own(mem) as u64 {
+    if leader(mem, c.view) != own(mem) as u64 {
         return true;
     }
     if c.view.0 <= c.timed.0 {
@@ -350,7 +350,7 @@ fn not_in_turn(c: Counters, mem: &[u8]) -> bool
 
 // Propose: 15, then 5.
 pub fn propose_early(c: Counters, mem: &[u8], name: [u8; 32]) -> u64
-    requires { ⌜ (entryPlace ≤ length (now mem)) × (0 < c .view .0) ⌝ }
+    requires { ⌜ (entryPlace ≤ length (now mem)) × (Listed (now mem) × (0 < c .view .0)) ⌝ }
     ensures { λ r. ⌜ r ≡ firstOf (earlyPropose (lent c (now (mem .entry)) []) name) ⌝ }
 {
     if not_in_turn(c, mem) {

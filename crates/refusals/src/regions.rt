@@ -5,8 +5,10 @@ use counters::Counters;
 use memory::ENTRY_PLACE;
 use memory::block_count;
 use memory::entry_length;
+use memory::leaders::leader_count;
 use memory::own;
 use memory::settings;
+use settings::MOST_LEADERS;
 use settings::Settings;
 use settings::View;
 use wire::length;
@@ -17,7 +19,7 @@ ghost use Prim.Native.Nat.{_+_, _*_, _≤_};
 ghost use lib.Dec.{leb, ltb};
 ghost use lib.ListN.{length};
 ghost use Rattle.settings.specs.Quorum.{largest, replicas};
-ghost use Rattle.settings.specs.Opening.{inBound};
+ghost use Rattle.settings.specs.Opening.{inBound, mostLeaders};
 ghost use Rattle.wire.specs.Fields.{timeoutsHead};
 ghost use Rattle.blocks.specs.declared.Block.{Block};
 ghost use Rattle.memory.specs.Layout.{memoryLength, entryOf};
@@ -77,6 +79,16 @@ fn settings_regular(s: Settings, own: u64) -> bool
     own < s.n()
 }
 
+// A leader list of 1 to 64 entries, whatever they are.
+fn leaders_regular(count: u64) -> bool
+    ensures { λ r. ⌜ r ≡ (leb 1 count && leb count mostLeaders) ⌝ }
+{
+    if count < 1 {
+        return false;
+    }
+    count <= MOST_LEADERS as u64
+}
+
 fn regular(c: Counters, mem: &[u8]) -> bool
     requires { ⌜ memoryLength ≤ length (now mem) ⌝ }
     ensures { λ r. ⌜ r ≡ regular (lent c (now (mem .entry)) []) ⌝ }
@@ -94,7 +106,10 @@ fn regular(c: Counters, mem: &[u8]) -> bool
     if STORE_LENGTH < block_count(mem) {
         return false;
     }
-    entry_regular(mem, s.n())
+    if !entry_regular(mem, s.n()) {
+        return false;
+    }
+    leaders_regular(leader_count(mem))
 }
 
 // 2, or 0 where the regions pass.

@@ -2,19 +2,19 @@
 use Prim.Native.Nat.{ℕ, _≤_}
 use native.Mathlib.Omega.{arith}
 use mathlib.Core.Path.{_≡_}
-use mathlib.Core.Bool.{true}
+use mathlib.Core.Bool.{true, _&&_}
 use borrow.Author.Tests.{leb-true, le-leb}
-use lib.Dec.{ltb}
+use lib.Dec.{ltb, leb}
 use lib.ListN.{length}
 use Rattle.settings.specs.Quorum.{largest, lastView}
-use Rattle.settings.specs.Opening.{inBound}
+use Rattle.settings.specs.Opening.{inBound, mostLeaders}
 use Rattle.codec.proofs.Order.{and-true}
 use Rattle.blocks.specs.declared.Block.{Block}
 use Rattle.blocks.specs.Store.{kept}
 use Rattle.blocks.proofs.Dropping.{held-within}
 use Rattle.blocks.proofs.Fewer.{kept-within}
-use Rattle.memory.specs.Layout.{memoryLength, blockCountOf, withBlockCount}
-use Rattle.memory.proofs.Header.{count-put, count-settings, count-own, count-entry}
+use Rattle.memory.specs.Layout.{memoryLength, blockCountOf, leaderCountOf, withBlockCount}
+use Rattle.memory.proofs.Header.{count-put, count-settings, count-own, count-leaders, count-entry}
 use Rattle.counters.specs.Counters.{releasing}
 use Rattle.protocol.specs.Work.{Work, settings, n, own, viewNow, blocks, release}
 use Rattle.protocol.specs.Refusals.{storeLength, regular, entryRegular}
@@ -27,6 +27,7 @@ pub record Bounded (W : Work) : Type 0 where
   pub view-last : viewNow W ≤ lastView
   pub room : blockCountOf (W .memory) ≤ storeLength
   pub entry : entryRegular W ≡ true
+  pub leaders : (leb 1 (leaderCountOf (W .memory)) && leb (leaderCountOf (W .memory)) mostLeaders) ≡ true
 
 pub bounded : (W : Work) → regular W ≡ true → Bounded W
 unfolding regular
@@ -37,7 +38,17 @@ bounded W e =
     let d = and-true _ _ (c .1) in
     let f = and-true _ _ (d .1) in
     let g = and-true _ _ (f .1) in
-    record { few = leb-true _ _ (a .0); bound = b .0; member = c .0; view-first = leb-true _ _ (d .0); view-last = leb-true _ _ (f .0); room = leb-true _ _ (g .0); entry = g .1 }
+    let h = and-true _ _ (g .1) in
+    record {
+      few = leb-true _ _ (a .0);
+      bound = b .0;
+      member = c .0;
+      view-first = leb-true _ _ (d .0);
+      view-last = leb-true _ _ (f .0);
+      room = leb-true _ _ (g .0);
+      entry = h .0;
+      leaders = h .1;
+    }
 
 -- of the counters it reads the view, and nothing of the store and of what was written
 pub regular-same : (W W′ : Work) → W .counters .view ≡ W′ .counters .view → W .memory ≡ W′ .memory → regular W ≡ true → regular W′ ≡ true
@@ -58,4 +69,4 @@ release-regular W v b l e =
     let k = length (kept b (blocks W)) in
     let h = count-after W b e l in
     let B = bounded W e in
-    rw (count-settings m k, count-own m k, count-entry m k, h .1, le-leb _ _ (B .few), B .bound, B .member, le-leb _ _ (B .view-first), le-leb _ _ (B .view-last), le-leb _ _ (h .0)) (B .entry)
+    rw (count-settings m k, count-own m k, count-entry m k, h .1, le-leb _ _ (B .few), B .bound, B .member, le-leb _ _ (B .view-first), le-leb _ _ (B .view-last), le-leb _ _ (h .0), B .entry, count-leaders m k .count) (B .leaders)

@@ -4,31 +4,27 @@ use lib.ListN.{take, drop}
 use Rattle.codec.proofs.Laws.{part-lent, length-part}
 use Rattle.wire.proofs.Certificates.{Stands, within}
 use Rattle.certificate.specs.declared.Certificate.{Certificate}
-use Rattle.memory.specs.Layout.{entryOf, entryLengthOf}
+use Rattle.memory.specs.Layout.{entryPlace, entryOf, entryLengthOf}
 use Rattle.refusals.proofs.Regular.{sized-block, sized-timeouts}
 use Rattle.judge.proofs.Passing.{entry-fits}
 use borrow.Author.Needs.{needs}
 use native.Mathlib.Omega.{arith}
 use Rattle.judge.proofs.entry_base.Statement.{statement}
 use Rattle.judge.proofs.entry_base.Tie as tie
-use Rattle.certificate.proofs.safe.safe_certificate.Reads as safe-certificate-reads
-use Rattle.memory.proofs.entry_length.Reads as entry-length-reads
-use Rattle.memory.proofs.settings.Reads as settings-reads
-use Rattle.wire.proofs.read.progress.Reads as progress-reads
 
 fits : (s : tie.Start) → (24 ≤ entryLengthOf (s .args .mem .now)) × (entryLengthOf (s .args .mem .now) ≤ 3608)
 fits s = entry-fits _ _ (s .pre .1 .0) (s .pre .0) (s .pre .1 .1)
 
 -- the slice is the entry certificate
-entry-is : (c : tie.After-entry-length) → take (16 + c .entry-length .result - 16) (drop 16 (c .before .before .args .mem .now)) ≡ entryOf (c .before .before .args .mem .now)
+entry-is : (c : tie.After-entry-length) → take (entryPlace + c .entry-length .result - entryPlace) (drop entryPlace (c .before .before .args .mem .now)) ≡ entryOf (c .before .before .args .mem .now)
 unfolding entryOf
-entry-is c = part-lent (c .before .before .args .mem .now) 16 (c .entry-length .result) ∙ rw (c .entry-length .ensures)
+entry-is c = part-lent (c .before .before .args .mem .now) entryPlace (c .entry-length .result) ∙ rw (c .entry-length .ensures)
 
 stands : (s : tie.Start) → Stands (entryOf (s .args .mem .now)) 0
 unfolding entryOf
 stands s =
     record {
-      head = rw (length-part (s .args .mem .now) 16 (entryLengthOf (s .args .mem .now)) (omega (arith, fits s .1, s .pre .0))) (fits s .0);
+      head = rw (length-part (s .args .mem .now) entryPlace (entryLengthOf (s .args .mem .now)) (omega (arith, fits s .1, s .pre .0))) (fits s .0);
       block = λ q. omega (arith, sized-block _ _ (s .pre .1 .1) q);
       timeouts = λ q. omega (arith, sized-timeouts _ _ (s .pre .1 .1) q);
     }

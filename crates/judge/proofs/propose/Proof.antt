@@ -6,11 +6,6 @@ use borrow.Author.Needs.{needs}
 use native.Mathlib.Omega.{arith}
 use Rattle.judge.proofs.propose.Statement.{statement}
 use Rattle.judge.proofs.propose.Tie as tie
-use Rattle.judge.proofs.entry_base.Reads as entry-base-reads
-use Rattle.judge.proofs.names.Reads as names-reads
-use Rattle.judge.proofs.nothing.Reads as nothing-reads
-use Rattle.refusals.proofs.early.propose_early.Reads as propose-early-reads
-use Rattle.refusals.proofs.regions.regions.Reads as regions-reads
 
 readied : (c : tie.Else1) → Ready (c .before .before .before .args .c) (c .before .before .before .args .mem .now)
 readied c = ready _ _ _ _ (c .before .regions .result) (c .before .regions .ensures) (c .if1 .left)
@@ -25,7 +20,7 @@ returns : tie.Need-returns
 returns c = λ s e. c .nothing .ensures ∙ propose-region _ _ _ (c .before .before .regions .ensures s e) (c .before .if1 .taken)
 
 propose-early-requires : tie.Need-propose-early-requires
-propose-early-requires c κs = let r = readied c in (omega (arith, r .long), r .first)
+propose-early-requires c κs = let r = readied c in (omega (arith, r .long), (r .listed, r .first))
 
 nothing-requires-2 : tie.Need-nothing-requires-2
 nothing-requires-2 c κs = search needs

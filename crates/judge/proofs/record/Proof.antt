@@ -10,13 +10,6 @@ use borrow.Author.Needs.{needs}
 use native.Mathlib.Omega.{arith}
 use Rattle.judge.proofs.record.Statement.{statement}
 use Rattle.judge.proofs.record.Tie as tie
-use Rattle.judge.proofs.look_up.Reads as look-up-reads
-use Rattle.judge.proofs.nothing.Reads as nothing-reads
-use Rattle.judge.proofs.shape_number.Reads as shape-number-reads
-use Rattle.memory.proofs.settings.Reads as settings-reads
-use Rattle.refusals.proofs.early.early.Reads as early-reads
-use Rattle.refusals.proofs.regions.regions.Reads as regions-reads
-use Rattle.settings.proofs.Settings.n.Reads as n-reads
 
 -- what is known past each place
 readied : (c : tie.Else1) → Ready (c .before .before .before .before .args .c) (c .before .before .before .before .args .mem .now)
@@ -53,7 +46,7 @@ returns-2 : tie.Need-returns-2
 returns-2 c = λ s e. c .nothing2 .ensures ∙ record-shape _ _ _ (sym (c .before .before .before .before .before .before .regions .ensures s e) ∙ c .before .before .before .before .before .if1 .left) (number (c .before .before)) (c .before .if2 .taken)
 
 early-requires : tie.Need-early-requires
-early-requires c κs = let r = readied (c .before .before .before .before) in (r .long, (r .few, whole c))
+early-requires c κs = let r = readied (c .before .before .before .before) in (r .long, (r .few, (r .listed, whole c)))
 
 nothing-requires-3 : tie.Need-nothing-requires-3
 nothing-requires-3 c κs = search needs

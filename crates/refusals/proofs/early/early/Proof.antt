@@ -8,20 +8,13 @@ use Rattle.refusals.specs.Early.{earlyRules}
 use native.Mathlib.Omega.{arith}
 use Rattle.refusals.proofs.early.early.Statement.{statement}
 use Rattle.refusals.proofs.early.early.Tie as tie
-use Rattle.codec.proofs.num.u16_at.Reads as u16-at-reads
-use Rattle.refusals.proofs.early.certificate_early.Reads as certificate-early-reads
-use Rattle.refusals.proofs.early.block_early.Reads as block-early-reads
-use Rattle.refusals.proofs.early.commit_early.Reads as commit-early-reads
-use Rattle.refusals.proofs.early.proposal_early.Reads as proposal-early-reads
-use Rattle.refusals.proofs.early.timeout_early.Reads as timeout-early-reads
-use Rattle.refusals.proofs.early.vote_early.Reads as vote-early-reads
 
 -- a record that is of none of the kinds 1, 2, 5, 7 and 8 is a certificate
 is-certificate : (c : tie.Else5) → (certificateLength (c .before .before .before .before .before .before .before .before .args .rec .now) ≡ false) × (certificateKindBad (c .before .before .before .before .before .before .before .before .args .rec .now) ≡ false)
 is-certificate c =
     let e = c .before .before .before .before .before .u16-at .ensures in (
-      whole-certificate _ (c .before .before .before .before .before .before .before .before .pre .1 .1 .0) (λ k. c .before .before .before .before .if1 .left (e ∙ k)) (λ k. c .before .before .before .if2 .left (e ∙ k)) (λ k. c .before .before .if3 .left (e ∙ k)) (λ k. c .before .if4 .left (e ∙ k)) (λ k. c .if5 .left (e ∙ k)),
-      certificate-kind _ (c .before .before .before .before .before .before .before .before .pre .1 .1 .1) (λ k. c .before .before .before .before .if1 .left (e ∙ k)) (λ k. c .before .before .before .if2 .left (e ∙ k)) (λ k. c .before .before .if3 .left (e ∙ k)) (λ k. c .before .if4 .left (e ∙ k)) (λ k. c .if5 .left (e ∙ k)),
+      whole-certificate _ (c .before .before .before .before .before .before .before .before .pre .1 .1 .1 .0) (λ k. c .before .before .before .before .if1 .left (e ∙ k)) (λ k. c .before .before .before .if2 .left (e ∙ k)) (λ k. c .before .before .if3 .left (e ∙ k)) (λ k. c .before .if4 .left (e ∙ k)) (λ k. c .if5 .left (e ∙ k)),
+      certificate-kind _ (c .before .before .before .before .before .before .before .before .pre .1 .1 .1 .1) (λ k. c .before .before .before .before .if1 .left (e ∙ k)) (λ k. c .before .before .before .if2 .left (e ∙ k)) (λ k. c .before .before .if3 .left (e ∙ k)) (λ k. c .before .if4 .left (e ∙ k)) (λ k. c .if5 .left (e ∙ k)),
     )
 
 -- and so none of kind 9, which no replica takes
@@ -32,38 +25,38 @@ no-release c k =
     omega (arith, e, k, six)
 
 u16-at-requires : tie.Need-u16-at-requires
-u16-at-requires c κs = omega (arith, whole-header _ (c .before .before .pre .1 .1 .0))
+u16-at-requires c κs = omega (arith, whole-header _ (c .before .before .pre .1 .1 .1 .0))
 
 vote-early-requires : tie.Need-vote-early-requires
-vote-early-requires c κs = (c .before .before .before .before .pre .0, (c .before .before .before .before .pre .1 .0, omega (arith, whole-vote _ (c .before .before .before .before .pre .1 .1 .0) (sym (c .before .u16-at .ensures) ∙ c .if1 .taken))))
+vote-early-requires c κs = (c .before .before .before .before .pre .0, (c .before .before .before .before .pre .1 .0, omega (arith, whole-vote _ (c .before .before .before .before .pre .1 .1 .1 .0) (sym (c .before .u16-at .ensures) ∙ c .if1 .taken))))
 
 returns : tie.Need-returns
 unfolding content earlyRules
 returns c = rw (← c .before .before .u16-at .ensures, c .before .if1 .taken) (c .vote-early .ensures)
 
 commit-early-requires : tie.Need-commit-early-requires
-commit-early-requires c κs = (c .before .before .before .before .before .pre .0, (c .before .before .before .before .before .pre .1 .0, omega (arith, whole-commit _ (c .before .before .before .before .before .pre .1 .1 .0) (sym (c .before .before .u16-at .ensures) ∙ c .if2 .taken))))
+commit-early-requires c κs = (c .before .before .before .before .before .pre .0, (c .before .before .before .before .before .pre .1 .0, omega (arith, whole-commit _ (c .before .before .before .before .before .pre .1 .1 .1 .0) (sym (c .before .before .u16-at .ensures) ∙ c .if2 .taken))))
 
 returns-2 : tie.Need-returns-2
 unfolding content earlyRules
 returns-2 c = rw (← c .before .before .before .u16-at .ensures, c .before .if2 .taken) (c .commit-early .ensures)
 
 timeout-early-requires : tie.Need-timeout-early-requires
-timeout-early-requires c κs = (c .before .before .before .before .before .before .pre .0, (c .before .before .before .before .before .before .pre .1 .0, omega (arith, whole-timeout _ (c .before .before .before .before .before .before .pre .1 .1 .0) (sym (c .before .before .before .u16-at .ensures) ∙ c .if3 .taken))))
+timeout-early-requires c κs = (c .before .before .before .before .before .before .pre .0, (c .before .before .before .before .before .before .pre .1 .0, omega (arith, whole-timeout _ (c .before .before .before .before .before .before .pre .1 .1 .1 .0) (sym (c .before .before .before .u16-at .ensures) ∙ c .if3 .taken))))
 
 returns-3 : tie.Need-returns-3
 unfolding content earlyRules
 returns-3 c = rw (← c .before .before .before .before .u16-at .ensures, c .before .if3 .taken) (c .timeout-early .ensures)
 
 proposal-early-requires : tie.Need-proposal-early-requires
-proposal-early-requires c κs = let k = sym (c .before .before .before .before .u16-at .ensures) ∙ c .if4 .taken in (omega (arith, c .before .before .before .before .before .before .before .pre .0), (whole-proposal _ (c .before .before .before .before .before .before .before .pre .1 .1 .0) k, (inner-length _ (c .before .before .before .before .before .before .before .pre .1 .1 .0) k, inner-kind _ (c .before .before .before .before .before .before .before .pre .1 .1 .1) k)))
+proposal-early-requires c κs = let k = sym (c .before .before .before .before .u16-at .ensures) ∙ c .if4 .taken in (omega (arith, c .before .before .before .before .before .before .before .pre .0), (c .before .before .before .before .before .before .before .pre .1 .1 .0, (whole-proposal _ (c .before .before .before .before .before .before .before .pre .1 .1 .1 .0) k, (inner-length _ (c .before .before .before .before .before .before .before .pre .1 .1 .1 .0) k, inner-kind _ (c .before .before .before .before .before .before .before .pre .1 .1 .1 .1) k))))
 
 returns-4 : tie.Need-returns-4
 unfolding content earlyRules
 returns-4 c = rw (← c .before .before .before .before .before .u16-at .ensures, c .before .if4 .taken) (c .proposal-early .ensures)
 
 block-early-requires : tie.Need-block-early-requires
-block-early-requires c κs = (omega (arith, c .before .before .before .before .before .before .before .before .pre .0), whole-header _ (c .before .before .before .before .before .before .before .before .pre .1 .1 .0))
+block-early-requires c κs = (omega (arith, c .before .before .before .before .before .before .before .before .pre .0), whole-header _ (c .before .before .before .before .before .before .before .before .pre .1 .1 .1 .0))
 
 returns-5 : tie.Need-returns-5
 unfolding content earlyRules

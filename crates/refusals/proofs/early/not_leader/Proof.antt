@@ -4,9 +4,6 @@ use borrow.Author.Needs.{needs}
 use native.Mathlib.Omega.{arith}
 use Rattle.refusals.proofs.early.not_leader.Statement.{statement}
 use Rattle.refusals.proofs.early.not_leader.Tie as tie
-use Rattle.memory.proofs.settings.Reads as settings-reads
-use Rattle.memory.proofs.window.leader.Reads as leader-reads
-use Rattle.refusals.proofs.early.not_other.Reads as not-other-reads
 
 not-other-requires : tie.Need-not-other-requires
 not-other-requires c κs = search needs
@@ -17,14 +14,11 @@ returns c = rw (← c .before .not-other .ensures, c .if1 .taken)
 returns-2 : tie.Need-returns-2
 returns-2 c = rw (← c .before .before .before .not-other .ensures, c .before .before .if1 .left, c .if2 .taken)
 
-settings-requires : tie.Need-settings-requires
-settings-requires c κs = search needs
-
 leader-requires : tie.Need-leader-requires
 leader-requires c κs = search needs
 
 returns-3 : tie.Need-returns-3
-returns-3 c = let h : 0 < c .before .before .before .before .before .before .before .args .v .0 = omega arith in rw (← c .before .before .before .before .before .not-other .ensures, c .before .before .before .before .if1 .left, lt-ltb _ _ h, c .leader .ensures, c .before .settings .ensures)
+returns-3 c = let h : 0 < c .before .before .before .before .before .before .args .v .0 = omega arith in rw (← c .before .before .before .before .not-other .ensures, c .before .before .before .if1 .left, lt-ltb _ _ h, c .leader .ensures)
 
 pub not-leader-spec : {M : Type 1} → statement M
 not-leader-spec =
@@ -33,6 +27,5 @@ not-leader-spec =
     not-other-requires
     returns
     returns-2
-    settings-requires
     leader-requires
     returns-3)

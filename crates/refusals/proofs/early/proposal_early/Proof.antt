@@ -9,22 +9,13 @@ use Rattle.wire.specs.Content.{certificateOf}
 use Rattle.wire.proofs.Certificates.{within, shaped-stands}
 use Rattle.certificate.specs.Good.{progressGood}
 use Rattle.memory.specs.Layout.{settingsOf, ownOf}
-use Rattle.memory.specs.Window.{leaderOf}
+use Rattle.memory.specs.Leaders.{byList}
 use Rattle.protocol.specs.Refusals.{viewOfProgress}
 use Rattle.refusals.specs.Early.{proposalRules, votedRules}
 use Rattle.refusals.proofs.Numbers.{skip, hit}
 use borrow.Author.Needs.{needs}
-use native.Mathlib.Omega.{arith}
 use Rattle.refusals.proofs.early.proposal_early.Statement.{statement}
 use Rattle.refusals.proofs.early.proposal_early.Tie as tie
-use Rattle.codec.proofs.name_at.Reads as name-at-reads
-use Rattle.codec.proofs.num.u16_at.Reads as u16-at-reads
-use Rattle.codec.proofs.num.u64_at.Reads as u64-at-reads
-use Rattle.memory.proofs.settings.Reads as settings-reads
-use Rattle.refusals.proofs.early.below_view.Reads as below-view-reads
-use Rattle.refusals.proofs.early.not_leader.Reads as not-leader-reads
-use Rattle.refusals.proofs.early.progress_bad.Reads as progress-bad-reads
-use Rattle.refusals.proofs.early.voted.Reads as voted-reads
 
 -- the tests of 6, 7 and 9, and what the code says of them
 abbrev party : tie.Start → Bool
@@ -32,7 +23,7 @@ party s =
     let m = s .args .mem .now in
     let j = senderOf (s .args .rec .now) in
     let v = viewOf (s .args .rec .now) in
-    (leb (replicas (settingsOf m)) j || eqb j (ownOf m)) || (ltb 0 v && not (eqb j (leaderOf (settingsOf m) v)))
+    (leb (replicas (settingsOf m)) j || eqb j (ownOf m)) || (ltb 0 v && not (eqb j (byList m v)))
 
 abbrev low : tie.Start → Bool
 low s = ltb (viewOf (s .args .rec .now)) (s .args .c .view .0) || eqb (viewOf (s .args .rec .now)) 0
@@ -82,13 +73,13 @@ unfolding proposalRules
 returns-3 c = skip _ _ (sym (party-is (c .before .before .before .before .before .before)) ∙ c .before .before .before .before .before .if1 .left) (skip _ _ (sym (low-is (c .before .before .before .before)) ∙ c .before .before .before .if2 .left) (hit _ _ (rw (c .before .before .before .before .before .before .before .before .u64-at .ensures) at (le-leb _ _ (c .if3 .taken)))))
 
 progress-requires : tie.Need-progress-requires
-progress-requires c κs = let S = shaped-stands (c .before .before .before .before .before .before .before .before .before .before .before .args .rec .now) 88 (c .before .before .before .before .before .before .before .before .before .before .before .pre .1 .1 .0) (c .before .before .before .before .before .before .before .before .before .before .before .pre .1 .1 .1) in (S .head, S .block)
+progress-requires c κs = let S = shaped-stands (c .before .before .before .before .before .before .before .before .before .before .before .args .rec .now) 88 (c .before .before .before .before .before .before .before .before .before .before .before .pre .1 .1 .1 .0) (c .before .before .before .before .before .before .before .before .before .before .before .pre .1 .1 .1 .1) in (S .head, S .block)
 
 settings-requires : tie.Need-settings-requires
 settings-requires c κs = search needs
 
 progress-bad-requires : tie.Need-progress-bad-requires
-progress-bad-requires c κs = within (c .before .before .before .before .before .before .before .before .before .before .before .before .before .args .rec .now) 88 (shaped-stands (c .before .before .before .before .before .before .before .before .before .before .before .before .before .args .rec .now) 88 (c .before .before .before .before .before .before .before .before .before .before .before .before .before .pre .1 .1 .0) (c .before .before .before .before .before .before .before .before .before .before .before .before .before .pre .1 .1 .1)) (c .before .progress .ensures .0)
+progress-bad-requires c κs = within (c .before .before .before .before .before .before .before .before .before .before .before .before .before .args .rec .now) 88 (shaped-stands (c .before .before .before .before .before .before .before .before .before .before .before .before .before .args .rec .now) 88 (c .before .before .before .before .before .before .before .before .before .before .before .before .before .pre .1 .1 .1 .0) (c .before .before .before .before .before .before .before .before .before .before .before .before .before .pre .1 .1 .1 .1)) (c .before .progress .ensures .0)
 
 returns-4 : tie.Need-returns-4
 unfolding proposalRules

@@ -1,13 +1,11 @@
 use mathlib.Core.Path.{sym}
 use Rattle.codec.proofs.Laws.{part-lent}
-use Rattle.memory.specs.Layout.{entryOf}
+use Rattle.memory.specs.Layout.{entryPlace, entryOf}
 use Rattle.refusals.proofs.Regular.{sized-short, sized-long}
 use borrow.Author.Needs.{needs}
 use native.Mathlib.Omega.{arith}
 use Rattle.refusals.proofs.regions.entry_regular.Statement.{statement}
 use Rattle.refusals.proofs.regions.entry_regular.Tie as tie
-use Rattle.refusals.proofs.regions.certificate_sized.Reads as certificate-sized-reads
-use Rattle.memory.proofs.entry_length.Reads as entry-length-reads
 
 entry-length-requires : tie.Need-entry-length-requires
 entry-length-requires c κs = search needs
@@ -35,7 +33,7 @@ certificate-sized-requires c κs = search needs
 
 returns-3 : tie.Need-returns-3
 unfolding entryOf
-returns-3 c = rw (← c .before .before .before .before .entry-length .ensures, ← part-lent (c .before .before .before .before .before .before .args .mem .now) 16 (c .before .before .before .before .entry-length .result)) (c .certificate-sized .ensures)
+returns-3 c = rw (← c .before .before .before .before .entry-length .ensures, ← part-lent (c .before .before .before .before .before .before .args .mem .now) entryPlace (c .before .before .before .before .entry-length .result)) (c .certificate-sized .ensures)
 
 pub entry-regular-spec : {M : Type 1} → statement M
 entry-regular-spec =

@@ -5,12 +5,6 @@ use Rattle.refusals.proofs.Regular.{regular-is}
 use borrow.Author.Needs.{needs}
 use Rattle.refusals.proofs.regions.regular.Statement.{statement}
 use Rattle.refusals.proofs.regions.regular.Tie as tie
-use Rattle.refusals.proofs.regions.entry_regular.Reads as entry-regular-reads
-use Rattle.refusals.proofs.regions.settings_regular.Reads as settings-regular-reads
-use Rattle.memory.proofs.block_count.Reads as block-count-reads
-use Rattle.memory.proofs.own.Reads as own-reads
-use Rattle.memory.proofs.settings.Reads as settings-reads
-use Rattle.settings.proofs.Settings.n.Reads as n-reads
 
 settings-requires : tie.Need-settings-requires
 settings-requires c κs = search needs
@@ -46,7 +40,16 @@ entry-regular-requires : tie.Need-entry-regular-requires
 entry-regular-requires c κs = (search needs, rw (c .n .ensures) (leb-true _ _ (and-true _ _ (sym (c .before .before .before .before .before .before .before .before .before .settings-regular .ensures) ∙ not-false (c .before .before .before .before .before .before .before .before .before .settings-regular .result) (c .before .before .before .before .before .before .before .before .if1 .left)) .0)))
 
 returns-5 : tie.Need-returns-5
-returns-5 c = rw (regular-is, ← c .before .before .before .before .before .before .before .before .before .before .before .before .settings .ensures, ← c .before .before .before .before .before .before .before .before .before .before .before .own .ensures, ← c .before .before .before .before .before .before .before .before .before .before .settings-regular .ensures, not-false (c .before .before .before .before .before .before .before .before .before .before .settings-regular .result) (c .before .before .before .before .before .before .before .before .before .if1 .left), le-leb _ _ (c .before .before .before .before .before .before .before .if2 .left), le-leb _ _ (c .before .before .before .before .if3 .left), ← c .before .before .before .block-count .ensures, le-leb _ _ (c .before .before .if4 .left), ← c .before .n .ensures) (c .entry-regular .ensures)
+returns-5 c = rw (regular-is, ← c .before .before .before .before .before .before .before .before .before .before .before .before .before .settings .ensures, ← c .before .before .before .before .before .before .before .before .before .before .before .before .own .ensures, ← c .before .before .before .before .before .before .before .before .before .before .before .settings-regular .ensures, not-false (c .before .before .before .before .before .before .before .before .before .before .before .settings-regular .result) (c .before .before .before .before .before .before .before .before .before .before .if1 .left), le-leb _ _ (c .before .before .before .before .before .before .before .before .if2 .left), le-leb _ _ (c .before .before .before .before .before .if3 .left), ← c .before .before .before .before .block-count .ensures, le-leb _ _ (c .before .before .before .if4 .left), ← c .before .before .n .ensures, ← c .before .entry-regular .ensures, not-true (c .before .entry-regular .result) (c .if5 .taken))
+
+leader-count-requires : tie.Need-leader-count-requires
+leader-count-requires c κs = search needs
+
+leaders-regular-requires : tie.Need-leaders-regular-requires
+leaders-regular-requires c κs = search needs
+
+returns-6 : tie.Need-returns-6
+returns-6 c = rw (regular-is, ← c .before .before .before .before .before .before .before .before .before .before .before .before .before .before .before .settings .ensures, ← c .before .before .before .before .before .before .before .before .before .before .before .before .before .before .own .ensures, ← c .before .before .before .before .before .before .before .before .before .before .before .before .before .settings-regular .ensures, not-false (c .before .before .before .before .before .before .before .before .before .before .before .before .before .settings-regular .result) (c .before .before .before .before .before .before .before .before .before .before .before .before .if1 .left), le-leb _ _ (c .before .before .before .before .before .before .before .before .before .before .if2 .left), le-leb _ _ (c .before .before .before .before .before .before .before .if3 .left), ← c .before .before .before .before .before .before .block-count .ensures, le-leb _ _ (c .before .before .before .before .before .if4 .left), ← c .before .before .before .before .n .ensures, ← c .before .before .before .entry-regular .ensures, not-false (c .before .before .before .entry-regular .result) (c .before .before .if5 .left), ← c .before .leader-count .ensures) (c .leaders-regular .ensures)
 
 pub regular-spec : {M : Type 1} → statement M
 regular-spec =
@@ -63,4 +66,7 @@ regular-spec =
     returns-4
     n-requires
     entry-regular-requires
-    returns-5)
+    returns-5
+    leader-count-requires
+    leaders-regular-requires
+    returns-6)
