@@ -6,12 +6,13 @@
     'params': ['cs', 'm', 'ys', 'out', 'inp', 'go', 'at', 'n', 'ans'],
     'callees': {
         'replay::input::part_of': {'ens': 'r .now ≡ part {0} {1} {2}'},
-        'replica::hydrangea_record': {'ens': 'replied r {w0} {w1} {w2} {w3} ≡ repliedBy (recordCall (lentTo {0} {1} {2}) {3} {4})'},
+        'replica::hydrangea_record': {'ens': 'replied r {w0} {w1} {w2} {w3} ≡ repliedBy (recordCall byList (lentTo {0} {1} {2}) {3} {4})'},
         'replay::refusal_of': {'ens': 'r ≡ {0} .refusal'},
     },
-    'says': ['(called (lentTo cs m ys) out (receive (part inp at n)) go ans r2 r1 (is-true go yes0) e2 (e1 ∙ ap (λ (b : List ℕ). repliedBy (recordCall (lentTo cs m ys) out b)) e0))', '(uncalled (lentTo cs m ys) out (receive (part inp at n)) go ans (is-false go no0))'],
+    'says': ['(called (lentTo cs m ys) out (receive (part inp at n)) go ans r2 r1 (is-true go yes0) e2 (e1 ∙ ap (λ (b : List ℕ). repliedBy (recordCall byList (lentTo cs m ys) out b)) e0))', '(uncalled (lentTo cs m ys) out (receive (part inp at n)) go ans (is-false go no0))'],
     'spec': {
         'Rattle.codec.specs.Bytes': ['part'],
+        'Rattle.memory.specs.Leaders': ['byList'],
         'Rattle.protocol.specs.Calls': ['recordCall'],
         'Rattle.protocol.specs.OneCall': ['receive'],
         'Rattle.replica.specs.Reply': ['lentTo', 'replied', 'repliedBy'],

@@ -11,6 +11,7 @@ use Rattle.blocks.specs.declared.Found.{Found}
 use Rattle.blocks.proofs.Dropping.{held-within}
 use Rattle.memory.specs.Layout.{blockCountOf}
 use Rattle.counters.specs.declared.Counters.{Counters}
+use Rattle.memory.specs.Leaders.{byList}
 use Rattle.protocol.specs.Work.{Work}
 use Rattle.protocol.specs.Refusals.{storeLength, regionRules, timerRules}
 use Rattle.protocol.specs.Events.{onRecord, onTimer, onPropose}
@@ -73,12 +74,12 @@ module _ (c : Counters) (m o : List ℕ) (s : List Block) (short : length s < 2 
 
   pub record-is : (b : List ℕ) (w : Want) (found under : Found) → RecordFound (length o) b w found under (lent c m s)
       → Performs (recordNumber (length o) b) (onRecord b (content b)) (RecordFound (length o) b w found under) c m o e m′ o′
-      → replied r (d .counters) m₂ s₂ o₂ ≡ repliedBy (recordCall (lentTo c m s) o b)
+      → replied r (d .counters) m₂ s₂ o₂ ≡ repliedBy (recordCall byList (lentTo c m s) o b)
   record-is b w found under g p = answers _ (record-outcome (lentTo c m s) o short e m′ o′ b w found under g p turned)
 
   pub propose-is : (x : List ℕ) (w : Want) (found under : Found) → ProposeFound (length o) x w found under (lent c m s)
       → Performs (proposeNumber (length o) x) (onPropose x) (ProposeFound (length o) x w found under) c m o e m′ o′
-      → replied r (d .counters) m₂ s₂ o₂ ≡ repliedBy (proposeCall (lentTo c m s) o x)
+      → replied r (d .counters) m₂ s₂ o₂ ≡ repliedBy (proposeCall byList (lentTo c m s) o x)
   propose-is x w found under g p = answers _ (propose-outcome (lentTo c m s) o short e m′ o′ x w found under g p turned)
 
   pub timer-is : (v k : ℕ) → TimerJudged (length o) v k (lent c m s)

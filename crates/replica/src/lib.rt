@@ -1,6 +1,6 @@
 // The replica: open, record, timer and propose on lent counters, memory, store and output.
 // Promises: each call, on any content and length of what is lent and with any input, replies and leaves what `openingCall`, `recordCall`, `timerCall` and
-// `proposeCall` of `protocol` say, of which demand 3 speaks. No public function has a `requires`. Rests on `judge`, `perform` and `release`; the calls have no branch.
+// `proposeCall` of `protocol` say, with the leader by the list that was opened with, of which demand 3 speaks. No public function has a `requires`. Rests on `judge`, `perform` and `release`; the calls have no branch.
 // They are exported by their own names, hence the prefix: a library that exports `open` would take the place of the C library's.
 use act::Draft;
 use blocks::Block;
@@ -16,9 +16,11 @@ use settings::Admission;
 use settings::Settings;
 use settings::View;
 use settings::admit;
+use settings::bad_leaders;
 ghost use mathlib.Core.Path.{_≡_};
 ghost use mathlib.Core.List.{List, []};
 ghost use lib.ListN.{length, set};
+ghost use Rattle.memory.specs.Leaders.{byList};
 ghost use Rattle.protocol.specs.Rules.{again};
 ghost use Rattle.protocol.specs.Calls.{recordCall, timerCall, proposeCall, openingCall};
 ghost use Rattle.refusals.specs.Number.{answerOf};
@@ -76,7 +78,7 @@ pub extern "C" fn hydrangea_record(
     rec: &[u8],
 ) -> Reply
     ensures { λ r. ⌜ replied r (now (counters .exit)) (now (mem .exit)) (now (store .exit)) (now (out .exit))
-        ≡ repliedBy (recordCall (lentTo (now (counters .entry)) (now (mem .entry)) (now (store .entry))) (now (out .entry)) (now (rec .entry))) ⌝ }
+        ≡ repliedBy (recordCall byList (lentTo (now (counters .entry)) (now (mem .entry)) (now (store .entry))) (now (out .entry)) (now (rec .entry))) ⌝ }
 {
     let c = *counters;
     let want = judge::record(c, mem, store.len(), out.len(), rec);
@@ -126,7 +128,7 @@ pub extern "C" fn hydrangea_propose(
     name: Name,
 ) -> Reply
     ensures { λ r. ⌜ replied r (now (counters .exit)) (now (mem .exit)) (now (store .exit)) (now (out .exit))
-        ≡ repliedBy (proposeCall (lentTo (now (counters .entry)) (now (mem .entry)) (now (store .entry))) (now (out .entry)) (name .bytes)) ⌝ }
+        ≡ repliedBy (proposeCall byList (lentTo (now (counters .entry)) (now (mem .entry)) (now (store .entry))) (now (out .entry)) (name .bytes)) ⌝ }
 {
     let c = *counters;
     let want = judge::propose(c, mem, store.len(), out.len(), name.bytes);
@@ -144,23 +146,35 @@ struct Opened {
     counters: Counters,
 }
 
-// Of settings that were admitted only the lengths of memory and store are left to judge.
-fn open_admitted(c: Counters, mem: &mut [u8], entries: usize, s: Settings, own: u16) -> Opened
-    ensures { λ r. ⌜ ((l : List Block) → length l ≡ entries → openedOutcome r (now (mem .exit)) l ≡ admitted (lentTo c (now (mem .entry)) l) s own) ⌝ }
+// A refused opening leaves the counters.
+fn not_opened(refusal: u64, counters: Counters) -> Opened
+    ensures { λ r. ⌜ r ≡ record { refusal = refusal; counters = counters } ⌝ }
 {
+    Opened { refusal, counters }
+}
+
+// Of settings that were admitted the leader list and the lengths of memory and store are left to judge.
+fn open_admitted(
+    c: Counters,
+    mem: &mut [u8],
+    entries: usize,
+    s: Settings,
+    n: u64,
+    own: u16,
+    leaders: &[u8],
+) -> Opened
+    ensures { λ r. ⌜ ((l : List Block) → length l ≡ entries → openedOutcome r (now (mem .exit)) l ≡ admitted (lentTo c (now (mem .entry)) l) s n own (now (leaders .entry))) ⌝ }
+{
+    if bad_leaders(n, leaders) {
+        return not_opened(1, c);
+    }
     if mem.len() < memory::LENGTH {
-        return Opened {
-            refusal: 2,
-            counters: c,
-        };
+        return not_opened(2, c);
     }
     if entries < STORE_LENGTH {
-        return Opened {
-            refusal: 2,
-            counters: c,
-        };
+        return not_opened(2, c);
     }
-    open_memory(mem, s, own);
+    open_memory(mem, s, own, leaders);
     Opened {
         refusal: 0,
         counters: opened(),
@@ -177,20 +191,18 @@ fn opening(
     k: u64,
     n: u64,
     own: u64,
+    leaders: &[u8],
 ) -> Opened
-    ensures { λ r. ⌜ ((l : List Block) → length l ≡ entries → openedOutcome r (now (mem .exit)) l ≡ openingCall (lentTo counters (now (mem .entry)) l) f c k n own) ⌝ }
+    ensures { λ r. ⌜ ((l : List Block) → length l ≡ entries → openedOutcome r (now (mem .exit)) l ≡ openingCall (lentTo counters (now (mem .entry)) l) f c k n own (now (leaders .entry))) ⌝ }
 {
     let admission = admit(f, c, k, n, own);
     match admission {
-        Admission::Admitted(s) => open_admitted(counters, mem, entries, s, own as u16),
-        Admission::Refused => Opened {
-            refusal: 1,
-            counters,
-        },
+        Admission::Admitted(s) => open_admitted(counters, mem, entries, s, n, own as u16, leaders),
+        Admission::Refused => not_opened(1, counters),
     }
 }
 
-// The opening: settings, n and own number. The store only has to be long enough.
+// The opening: settings, n, own number and leader list. The store only has to be long enough.
 #[no_mangle]
 pub extern "C" fn hydrangea_open(
     counters: &mut Counters,
@@ -201,12 +213,13 @@ pub extern "C" fn hydrangea_open(
     k: u64,
     n: u64,
     own: u64,
+    leaders: &[u8],
 ) -> Reply
     ensures { λ r. ⌜ replied r (now (counters .exit)) (now (mem .exit)) (now (store .entry)) []
-        ≡ repliedBy (openingCall (lentTo (now (counters .entry)) (now (mem .entry)) (now (store .entry))) f c k n own) ⌝ }
+        ≡ repliedBy (openingCall (lentTo (now (counters .entry)) (now (mem .entry)) (now (store .entry))) f c k n own (now (leaders .entry))) ⌝ }
 {
     let old = *counters;
-    let done = opening(old, mem, store.len(), f, c, k, n, own);
+    let done = opening(old, mem, store.len(), f, c, k, n, own, leaders);
     *counters = done.counters;
     answer(done.refusal, 0)
 }
