@@ -5,3 +5,4 @@ pub mod Whole
 pub mod Halves
 pub mod Moves
 pub mod Listing
+pub mod InTurn

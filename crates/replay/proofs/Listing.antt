@@ -10,11 +10,12 @@ use borrow.Author.Tests.{ne-eqb}
 use lib.Dec.{eqb, lit<, lit≤}
 use lib.ListN.{length, take, drop, getD}
 use Rattle.settings.specs.Answer.{Answer, accepts, refuses, Rule, judge}
-use Rattle.settings.specs.Opening.{openingRules}
+use Rattle.settings.specs.Opening.{openingRules, leaderRules, inTurn}
 use Rattle.codec.specs.Bytes.{IsBytes, part, leNat, leBytes}
 use Rattle.wire.specs.Encode.{headerBytes}
 use Rattle.wire.specs.Fit.{All}
 use Rattle.memory.specs.Layout.{memoryLength}
+use Rattle.memory.specs.Leaders.{byList}
 use Rattle.protocol.specs.Typed.{BlockTyped}
 use Rattle.protocol.specs.Refusals.{storeLength, outputLength}
 use Rattle.protocol.specs.Calls.{Replica, Outcome, timerCall, openingCall, openingCore, openingRefusals}
@@ -26,7 +27,7 @@ use Rattle.protocol.proofs.example.Listing.{listing}
 use Rattle.replay.specs.declared.Opening.{Opening}
 use Rattle.replay.specs.Input.{openingLength, wellFormed, openingOf, Piece, whole, beginsWhole, front, used, cut, pieces, calls, asksRecord, asks}
 use Rattle.replay.specs.Lines.{refusedOpening, nextCall}
-use Rattle.replay.specs.Replay.{answered, Ran, afterAnswer, taken, run, opens, begun, program}
+use Rattle.replay.specs.Replay.{answered, Ran, afterAnswer, taken, run, opens, opensWith, begun, program}
 use Rattle.replay.specs.Listing.{openingBytes, timerBytes, proposeBytes, listingInput}
 
 -- ---- the bytes: the first record's numbers, the records after it, and what they ask
@@ -47,16 +48,16 @@ abbrev pub ran : Replica → List ℕ → List Line → ℕ → Ran
 ran r o lines next = record { replica = r; output = o; lines = lines; next = next }
 
 -- one call of a program that goes on behind it
-one : (r : Replica) (o : List ℕ) (lines : List Line) (k next : ℕ) (p : Piece) (c : Call) → eqb k 0 ≡ false → asks p ≡ calls c → nextCall k (number (callOn r o c .reply)) ≡ next
-    → taken (ran r o lines k) p ≡ ran (left (callOn r o c)) (callOn r o c .output) (lines ++ (lineAfter k (callOn r o c) ∷ [])) next
+one : (r : Replica) (o : List ℕ) (lines : List Line) (k next : ℕ) (p : Piece) (c : Call) → eqb k 0 ≡ false → asks p ≡ calls c → nextCall k (number (callOn byList r o c .reply)) ≡ next
+    → taken (ran r o lines k) p ≡ ran (left (callOn byList r o c)) (callOn byList r o c .output) (lines ++ (lineAfter k (callOn byList r o c) ∷ [])) next
 unfolding taken answered
 one r o lines k next p c h e n = rw (h, e, n)
 
 -- a call keeps the length of the output region
-region-kept : (r : Replica) (o : List ℕ) (c : Call) → CallTyped c → RegularReplica r → length (callOn r o c .output) ≡ length o
-region-kept r o c h R = by-reply (callOn r o c .reply) refl
+region-kept : (r : Replica) (o : List ℕ) (c : Call) → CallTyped c → RegularReplica r → length (callOn byList r o c .output) ≡ length o
+region-kept r o c h R = by-reply (callOn byList r o c .reply) refl
   where
-    by-reply : (a : Answer ℕ) → callOn r o c .reply ≡ a → length (callOn r o c .output) ≡ length o
+    by-reply : (a : Answer ℕ) → callOn byList r o c .reply ≡ a → length (callOn byList r o c .output) ≡ length o
     by-reply (accepts k) e = call-accepted r o c k (R .typed) h e .wrote .size
     by-reply (refuses a) e = ap length (call-refused r o c a e .region)
 
@@ -64,7 +65,7 @@ module _ (lent : Replica) (o : List ℕ) (b : IsBytes (lent .memory)) (typed : A
     (room : outputLength ≤ length o) where
   -- what the opening leaves, and each call's outcome, with the region that the call before left
   abbrev r₀ : Replica
-  r₀ = left (openingCall lent 1 1 0 6 1)
+  r₀ = left (openingCall lent 1 1 0 6 1 (inTurn 6))
 
   abbrev first : Outcome
   first = timerCall r₀ o 2
@@ -75,11 +76,11 @@ module _ (lent : Replica) (o : List ℕ) (b : IsBytes (lent .memory)) (typed : A
   abbrev third : Outcome
   third = timerCall (left second) (second .output) 1
 
-  accepted : openingCall lent 1 1 0 6 1 .reply ≡ accepts 0
+  accepted : openingCall lent 1 1 0 6 1 (inTurn 6) .reply ≡ accepts 0
   accepted = listing lent b typed long many o o o o room room room room .0
 
   R₀ : RegularReplica r₀
-  R₀ = opening-accepted lent 1 1 0 6 1 0 b typed accepted .regular
+  R₀ = opening-accepted lent 1 1 0 6 1 (inTurn 6) 0 b typed accepted .regular
 
   R₁ : RegularReplica (left first)
   R₁ = call-keeps r₀ o (timer 2) (lit< tt) R₀
@@ -99,7 +100,7 @@ module _ (lent : Replica) (o : List ℕ) (b : IsBytes (lent .memory)) (typed : A
   answer-is i = ap (λ (l : List Line). getD l i refusedOpening .answer) lines-are
 
   opened-is : begun (opens lent (openingOf (take openingLength listingInput))) o ≡ ran r₀ o [] 1
-  unfolding begun opens
+  unfolding begun opensWith
   opened-is = rw (listing-opens, accepted)
 
   -- THE LISTING: on its input's bytes the program prints what 01 says
@@ -129,15 +130,15 @@ run-stopped s (p ∷ ps) e = let t : taken s p ≡ s = rw e in rw t (run-stopped
 
 -- what an opening that isn't accepted leaves is what was lent
 opens-nothing : (lent : Replica) (x : Opening) → (opens lent x .answer ≡ 0 → ⊥) → opens lent x .replica ≡ lent
-unfolding opens
+unfolding opensWith
 opens-nothing lent x h = go (x .well) h
   where
     made-of : Outcome
-    made-of = openingCall lent (x .f) (x .c) (x .k) (x .n) (x .own)
+    made-of = openingCall lent (x .f) (x .c) (x .k) (x .n) (x .own) (inTurn (x .n))
 
     by-reply : (a : Answer ℕ) → made-of .reply ≡ a → (number (made-of .reply) ≡ 0 → ⊥) → left made-of ≡ lent
     by-reply (accepts k) e h₁ = absurd (h₁ (ap number e))
-    by-reply (refuses a) e h₁ = opening-refused lent (x .f) (x .c) (x .k) (x .n) (x .own) a e .replica
+    by-reply (refuses a) e h₁ = opening-refused lent (x .f) (x .c) (x .k) (x .n) (x .own) (inTurn (x .n)) a e .replica
 
     go : (t : Bool) → (cond t (afterAnswer (number (made-of .reply)) (left made-of) []) (afterAnswer 1 lent []) .answer ≡ 0 → ⊥)
         → cond t (afterAnswer (number (made-of .reply)) (left made-of) []) (afterAnswer 1 lent []) .replica ≡ lent
@@ -154,12 +155,12 @@ some-number (r ∷ rules) x a h e = go (r .test) (some-number rules x a (h .1)) 
     go true later e₁ = let n : r .number ≡ a = cc in omega (arith, h .0)
     go false later e₁ = later e₁
 
-opening-number : (r : Replica) (f c k n own a : ℕ) → openingCall r f c k n own .reply ≡ refuses a → 1 ≤ a
-unfolding openingCall openingCore openingRules All
-opening-number r f c k n own a e =
+opening-number : (r : Replica) (f c k n own : ℕ) (leaders : List ℕ) (a : ℕ) → openingCall r f c k n own leaders .reply ≡ refuses a → 1 ≤ a
+unfolding openingCall openingCore openingRules leaderRules All
+opening-number r f c k n own leaders a e =
     let p : 1 ≤ 1 = lit≤ tt in
     let q : 1 ≤ 2 = lit≤ tt in
-    some-number (openingRefusals r _ n own) _ a (p, (p, (p, (p, (q, (q, tt)))))) (reply-refuses r [] (openingCore r f c k n own) a e)
+    some-number (openingRefusals r _ n own leaders) _ a (p, (p, (p, (p, (p, (q, (q, tt))))))) (reply-refuses r [] (openingCore r f c k n own leaders) a e)
 
 module _ (lent : Replica) (o input : List ℕ) where
   abbrev asked : Opening
@@ -172,14 +173,14 @@ module _ (lent : Replica) (o input : List ℕ) where
 
   -- "empty input or a first record that isn't a well-formed kind 12"
   pub malformed-opening-prints : asked .well ≡ false → program lent o input ≡ ran lent o (refusedOpening ∷ []) 0
-  unfolding opens
+  unfolding opensWith
   malformed-opening-prints e = bad-opening-prints (rw e (λ z. omega (arith, z)))
 
   -- "bad settings"
-  pub refused-opening-prints : (a : ℕ) → asked .well ≡ true → openingCall lent (asked .f) (asked .c) (asked .k) (asked .n) (asked .own) .reply ≡ refuses a
+  pub refused-opening-prints : (a : ℕ) → asked .well ≡ true → openingCall lent (asked .f) (asked .c) (asked .k) (asked .n) (asked .own) (inTurn (asked .n)) .reply ≡ refuses a
       → program lent o input ≡ ran lent o (refusedOpening ∷ []) 0
-  unfolding opens
-  refused-opening-prints a w e = bad-opening-prints (rw (w, e) (λ z. omega (arith, z, opening-number lent _ _ _ _ _ a e)))
+  unfolding opensWith
+  refused-opening-prints a w e = bad-opening-prints (rw (w, e) (λ z. omega (arith, z, opening-number lent _ _ _ _ _ _ a e)))
 
 pub empty-input-prints : (lent : Replica) (o : List ℕ) → program lent o [] ≡ ran lent o (refusedOpening ∷ []) 0
 unfolding openingOf wellFormed

@@ -12,6 +12,7 @@ use Rattle.codec.specs.Names.{nameLength}
 use Rattle.wire.specs.Fields.{lengthOf, kindOf, senderOf, viewOf}
 use Rattle.blocks.specs.declared.Block.{Block}
 use Rattle.counters.specs.declared.Counters.{Counters}
+use Rattle.memory.specs.Leaders.{byList}
 use Rattle.protocol.specs.Calls.{Replica, Outcome, openingCall}
 use Rattle.protocol.specs.OneCall.{Call, receive, timer, propose, callOn, left}
 use Rattle.protocol.specs.Listing.{number}
@@ -23,7 +24,7 @@ use Rattle.replay.specs.declared.Request.{Request}
 use Rattle.replay.specs.declared.Depth.{Depth}
 use Rattle.replay.specs.Input.{timerKind, timerLength, proposeKind, proposeLength, beginsWhole, front, used, whole, broken, Asked, calls, answers, asks, asksRecord}
 use Rattle.replay.specs.Lines.{lineLength}
-use Rattle.replay.specs.Replay.{Answered, afterAnswer, answered, opens, goes, behind, withLine, Standing, standing, step, steps}
+use Rattle.replay.specs.Replay.{Answered, afterAnswer, answered, opensWith, goes, behind, withLine, Standing, standing, step, steps}
 use Rattle.replay.specs.Requests.{idle, requestOf, frontRequest, requestAt, deeper}
 use Rattle.replay.proofs.Laws.{going, ready-some}
 use Rattle.replay.proofs.Cutting.{used-within}
@@ -44,19 +45,20 @@ told {c} {m} {s} {o} x r t e is =
     ap (λ (k : ℕ). afterAnswer k (lentTo c m s) o) e ∙ (ap (λ (z : Replied). afterAnswer (z .reply .refusal) (lentTo (z .counters) (z .memory) (z .store)) (z .output)) is
     ∙ ap (λ (k : ℕ). afterAnswer k (left x) (x .output)) (refusal-is (x .reply)))
 
-pub opens-made : {c : Counters} {m : List ℕ} {s : List Block} (p : Replica) (o : Opening) (r : ℕ) (t : Reply) → o .well ≡ true → r ≡ t .refusal
-    → replied t c m s [] ≡ repliedBy (openingCall p (o .f) (o .c) (o .k) (o .n) (o .own)) → afterAnswer r (lentTo c m s) [] ≡ opens p o
-unfolding opens
-opens-made p o r t y e is = rw y (ap (λ (a : Answered). afterAnswer (a .answer) (a .replica) []) (told (openingCall p (o .f) (o .c) (o .k) (o .n) (o .own)) r t e is))
+pub opens-made : {c : Counters} {m : List ℕ} {s : List Block} {given : List ℕ} (leaders : List ℕ) (p : Replica) (o : Opening) (r : ℕ) (t : Reply) → o .well ≡ true → given ≡ leaders → r ≡ t .refusal
+    → replied t c m s [] ≡ repliedBy (openingCall p (o .f) (o .c) (o .k) (o .n) (o .own) given) → afterAnswer r (lentTo c m s) [] ≡ opensWith leaders p o
+unfolding opensWith
+opens-made leaders p o r t y g e is =
+    rw y (ap (λ (a : Answered). afterAnswer (a .answer) (a .replica) []) (told (openingCall p (o .f) (o .c) (o .k) (o .n) (o .own) leaders) r t e (rw g at is)))
 
-pub opens-unmade : (p : Replica) (o : Opening) → o .well ≡ false → afterAnswer 1 p [] ≡ opens p o
-unfolding opens
-opens-unmade p o n = rw n
+pub opens-unmade : (leaders : List ℕ) (p : Replica) (o : Opening) → o .well ≡ false → afterAnswer 1 p [] ≡ opensWith leaders p o
+unfolding opensWith
+opens-unmade leaders p o n = rw n
 
 pub called : {c : Counters} {m : List ℕ} {s : List Block} {o′ : List ℕ} (p : Replica) (o : List ℕ) (x : Call) (go : Bool) (ans r : ℕ) (t : Reply) → go ≡ true → r ≡ t .refusal
-    → replied t c m s o′ ≡ repliedBy (callOn p o x) → afterAnswer r (lentTo c m s) o′ ≡ cond go (answered p o (calls x)) (afterAnswer ans p o)
+    → replied t c m s o′ ≡ repliedBy (callOn byList p o x) → afterAnswer r (lentTo c m s) o′ ≡ cond go (answered p o (calls x)) (afterAnswer ans p o)
 unfolding answered
-called p o x go ans r t y e is = rw y (told (callOn p o x) r t e is)
+called p o x go ans r t y e is = rw y (told (callOn byList p o x) r t e is)
 
 pub uncalled : (p : Replica) (o : List ℕ) (x : Call) (go : Bool) (ans : ℕ) → go ≡ false → afterAnswer ans p o ≡ cond go (answered p o (calls x)) (afterAnswer ans p o)
 uncalled p o x go ans n = rw n

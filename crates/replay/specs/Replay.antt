@@ -4,8 +4,10 @@ use mathlib.Core.Bool.{Bool, cond, not, _&&_, _||_}
 use mathlib.Core.List.{List, [], _∷_, _++_}
 use lib.Dec.{eqb, ltb, leb}
 use lib.ListN.{length, take, drop}
+use Rattle.settings.specs.Opening.{inTurn}
 use Rattle.codec.specs.Bytes.{patch}
 use Rattle.wire.specs.Fields.{headerLength, lengthOf}
+use Rattle.memory.specs.Leaders.{byList}
 use Rattle.counters.specs.declared.Counters.{Counters}
 use Rattle.protocol.specs.Calls.{Replica, openingCall}
 use Rattle.protocol.specs.OneCall.{callOn, left}
@@ -26,7 +28,7 @@ afterAnswer a r o = record { answer = a; replica = r; output = o }
 
 -- a call is made, or the answer stands without one and nothing changes
 unfoldable pub answered : Replica → List ℕ → Asked → Answered
-answered r o (calls c) = let x = callOn r o c in afterAnswer (number (x .reply)) (left x) (x .output)
+answered r o (calls c) = let x = callOn byList r o c in afterAnswer (number (x .reply)) (left x) (x .output)
 answered r o (answers a) = afterAnswer a r o
 
 -- ---- A WHOLE INPUT
@@ -54,10 +56,14 @@ abbrev pub followedBy : List Line → Ran → Ran
 followedBy lines s = record { replica = s .replica; output = s .output; lines = lines ++ s .lines; next = s .next }
 
 -- the opening is a call too, but is made only where the first record is a well-formed one
-unfoldable pub opens : Replica → Opening → Answered
-opens r o =
-    let x = openingCall r (o .f) (o .c) (o .k) (o .n) (o .own) in
+unfoldable pub opensWith : List ℕ → Replica → Opening → Answered
+opensWith leaders r o =
+    let x = openingCall r (o .f) (o .c) (o .k) (o .n) (o .own) leaders in
     cond (o .well) (afterAnswer (number (x .reply)) (left x) []) (afterAnswer 1 r [])
+
+-- 02, 2.1: "the list 0 to n−1 ...; the run program opens with it"
+abbrev pub opens : Replica → Opening → Answered
+opens r o = opensWith (inTurn (o .n)) r o
 
 -- "An accepted opening prints no line"; any other prints `0 1 0 0 0`, "and stop"
 unfoldable pub begun : Answered → List ℕ → Ran

@@ -9,12 +9,15 @@ use codec::num::u16_at;
 use codec::num::u32_at;
 use codec::num::u64_at;
 use replica::Name;
+use settings::Settings;
 use settings::View;
 use wire::length;
 ghost use mathlib.Core.Path.{_≡_};
 ghost use Prim.Native.Nat.{_≤_};
 ghost use lib.ListN.{length};
-ghost use Rattle.codec.specs.Bytes.{part};
+ghost use Rattle.settings.specs.Quorum.{largest};
+ghost use Rattle.settings.specs.Opening.{inTurn};
+ghost use Rattle.codec.specs.Bytes.{part, patch};
 ghost use Rattle.protocol.specs.OneCall.{timer, propose, receive};
 ghost use Rattle.replay.specs.Input.{wellFormed, openingOf, sized, beginsWhole, calls, answers, asksRecord};
 ghost use Rattle.replay.specs.Replay.{known, ready, goes};
@@ -46,6 +49,18 @@ fn well_formed(rec: &[u8]) -> bool
         return false;
     }
     le_at(rec, 18, 6) == 0
+}
+
+// The numbers 0 to 31, at the front of a region: the first n of them are the leader list of a cluster of n.
+pub fn put_in_turn(list: &mut [u8])
+    requires { ⌜ largest ≤ length (now list) ⌝ }
+    ensures { λ _. ⌜ now (list .exit) ≡ patch (now (list .entry)) 0 (inTurn largest) ⌝ }
+{
+    let mut i: u64 = 0;
+    while i < Settings::LARGEST {
+        list[i as usize] = i as u8;
+        i += 1;
+    }
 }
 
 // The first record, of which at most 24 bytes are handed over.
@@ -254,4 +269,11 @@ pub fn part_of<'a>(input: &'a [u8], at: usize, n: usize) -> &'a [u8]
         return &input[at..at + n];
     }
     &input[at..]
+}
+
+// The first n bytes, or those of them that there are.
+pub fn first_of<'a>(list: &'a [u8], n: u64) -> &'a [u8]
+    ensures { λ r. ⌜ now r ≡ part (now (list .entry)) 0 n ⌝ }
+{
+    part_of(list, 0, n as usize)
 }

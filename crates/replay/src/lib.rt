@@ -1,5 +1,5 @@
 // A recorded input on a replica: from bytes at hand, the calls that they ask, and the numbers of a line for each.
-// Promises: the opening is judged as `openingOf` and `opens` say, and any number of steps over any bytes, from any counters, memory, store and regions, leaves what
+// Promises: the opening is judged as `openingOf` and `opensWith` say, and any number of steps over any bytes, from any counters, memory, store and regions, leaves what
 // `steps` says, which on a whole input is 01's run (`program` of specs/Replay.antt, proofs/Whole.antt). It reads and prints nothing. Rests on `replica`.
 // Every decision is in a function by value; the functions over counters and store only pass them on.
 pub mod input;
@@ -23,7 +23,7 @@ ghost use Rattle.replica.specs.Reply.{lentTo};
 ghost use Rattle.replay.specs.Input.{calls};
 ghost use Rattle.replay.specs.Lines.{lineLength, lineBytes, refusedOpening, nextCall};
 ghost use Rattle.replay.specs.Requests.{deeper};
-ghost use Rattle.replay.specs.Replay.{afterAnswer, answered, opens, start, stopped, behind, withLine, standing, step, steps};
+ghost use Rattle.replay.specs.Replay.{afterAnswer, answered, opensWith, start, stopped, behind, withLine, standing, step, steps};
 
 // The first record: whether it is a well-formed opening, and its five numbers.
 pub struct Opening {
@@ -145,13 +145,20 @@ pub fn shallower(level: u64, goes: bool) -> Depth
 
 // ---- functions over counters and store
 
-// The opening is called where there is one.
-pub fn open_call(counters: &mut Counters, mem: &mut [u8], store: &[Block], o: Opening) -> u64
+// The opening is called where there is one: its leader list are the first n of a list of numbers.
+pub fn open_call(
+    counters: &mut Counters,
+    mem: &mut [u8],
+    store: &[Block],
+    numbers: &[u8],
+    o: Opening,
+) -> u64
     ensures { λ r. ⌜ afterAnswer r (lentTo (now (counters .exit)) (now (mem .exit)) (now (store .entry))) []
-        ≡ opens (lentTo (now (counters .entry)) (now (mem .entry)) (now (store .entry))) o ⌝ }
+        ≡ opensWith (part (now (numbers .entry)) 0 (o .n)) (lentTo (now (counters .entry)) (now (mem .entry)) (now (store .entry))) o ⌝ }
 {
     if o.well {
-        let r = replica::hydrangea_open(counters, mem, store, o.f, o.c, o.k, o.n, o.own);
+        let leaders = input::first_of(numbers, o.n);
+        let r = replica::hydrangea_open(counters, mem, store, o.f, o.c, o.k, o.n, o.own, leaders);
         refusal_of(r)
     } else {
         1

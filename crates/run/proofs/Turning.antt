@@ -9,6 +9,8 @@ use mathlib.Core.List.{List, [], _∷_, _++_, append-nil, append-assoc}
 use borrow.Author.Tests.{eqb-true, eqb-false, not-true, le-leb, ltb-true, ltb-false}
 use lib.Dec.{eqb, ltb}
 use lib.ListN.{length, take, drop, replicate, length-take, length-append}
+use Rattle.settings.specs.Quorum.{largest}
+use Rattle.settings.specs.Opening.{inTurn}
 use Rattle.codec.specs.Bytes.{part, patch}
 use Rattle.codec.proofs.Laws.{patch-nil}
 use Rattle.codec.proofs.Order.{and-true}
@@ -22,9 +24,10 @@ use Rattle.replay.specs.declared.Opening.{Opening}
 use Rattle.replay.specs.declared.Place.{Place}
 use Rattle.replay.specs.Input.{openingOf, pieces}
 use Rattle.replay.specs.Lines.{lineLength, lineBytes, linesBytes, refusedOpening}
-use Rattle.replay.specs.Replay.{Answered, afterAnswer, Ran, run, followedBy, opens, begun, known, ready, goes, Standing, standing, start, stopped, steps}
+use Rattle.replay.specs.Replay.{Answered, afterAnswer, Ran, run, followedBy, opens, opensWith, begun, known, ready, goes, Standing, standing, start, stopped, steps}
 use Rattle.replay.specs.declared.Depth.{Depth}
 use Rattle.replay.specs.Requests.{deeper}
+use Rattle.replay.proofs.InTurn.{opens-in-turn}
 use Rattle.replay.proofs.Halves.{both-halves, over-at}
 use Rattle.replay.proofs.Laws.{ready-some}
 use Rattle.replay.proofs.Whole.{ranFrom, Stepped, steps-are-run, steps-move, run-goes-on}
@@ -176,12 +179,13 @@ no-turns zero x g r e is n = spent x
 no-turns (suc l) x g r e is n = done (2 ^ suc l - 1) x (sym e ∙ over-at l g r is n)
 
 -- ---- the whole program
-pub program-went : {buffer : List ℕ} {o : Opening} {c₀ c₁ c₂ : Counters} {m₁ m₂ : List ℕ} {s₂ : List Block} {o₂ l₁ l₂ : List ℕ} {a : ℕ} {place : Place} {t t₂ : Turn}
-    (m : List ℕ) (s : List Block) (out l last-buffer : List ℕ) → FirstRead buffer o → c₀ ≡ opened → afterAnswer a (lentTo c₁ m₁ s) [] ≡ opens (lentTo c₀ m s) o
+pub program-went : {buffer buffer₁ : List ℕ} {o : Opening} {c₀ c₁ c₂ : Counters} {m₁ m₂ : List ℕ} {s₂ : List Block} {o₂ l₁ l₂ : List ℕ} {a : ℕ} {place : Place} {t t₂ : Turn}
+    (m : List ℕ) (s : List Block) (out l last-buffer : List ℕ) → FirstRead buffer o → largest ≤ length buffer → buffer₁ ≡ patch buffer 0 (inTurn largest) → c₀ ≡ opened
+    → afterAnswer a (lentTo c₁ m₁ s) [] ≡ opensWith (part buffer₁ 0 (o .n)) (lentTo c₀ m s) o
     → (place ≡ cond (eqb a 0) (start 1) stopped) × (l₁ ≡ cond (eqb a 0) l (patch l 0 (lineBytes refusedOpening))) → t ≡ record { have = 0; ended = false; next = place .next }
-    → Turns (2 ^ 62 - 1) (between (lentTo c₁ m₁ s) out buffer l₁ t) (between (lentTo c₂ m₂ s₂) o₂ last-buffer l₂ t₂) → Program (2 ^ 62 - 1) m s out l m₂ s₂ o₂ l₂ t₂
+    → Turns (2 ^ 62 - 1) (between (lentTo c₁ m₁ s) out buffer₁ l₁ t) (between (lentTo c₂ m₂ s₂) o₂ last-buffer l₂ t₂) → Program (2 ^ 62 - 1) m s out l m₂ s₂ o₂ l₂ t₂
 unfolding begun linesBytes
-program-went {buffer} {o} {c₀} {c₁} {c₂} {m₁} {m₂} {s₂} {o₂} {l₁} {l₂} {a} {place} {t} {t₂} m s out l last-buffer f e₀ e₁ e₂ e₃ turns =
+program-went {buffer} {buffer₁} {o} {c₀} {c₁} {c₂} {m₁} {m₂} {s₂} {o₂} {l₁} {l₂} {a} {place} {t} {t₂} m s out l last-buffer f fits put e₀ e₁ e₂ e₃ turns =
     record {
       first = take (f .got) buffer;
       short = omega (arith, length-take (f .got) buffer, f .most);
@@ -192,7 +196,7 @@ program-went {buffer} {o} {c₀} {c₁} {c₂} {m₁} {m₂} {s₂} {o₂} {l₁
     }
   where
     opened-as : afterAnswer a (lentTo c₁ m₁ s) [] ≡ opens (lentTo opened m s) (openingOf (take (f .got) buffer))
-    opened-as = e₁ ∙ (ap (λ (c : Counters). opens (lentTo c m s) o) e₀ ∙ ap (opens (lentTo opened m s)) (f .is))
+    opened-as = e₁ ∙ (opens-in-turn buffer buffer₁ fits put (lentTo c₀ m s) o ∙ (ap (λ (c : Counters). opens (lentTo c m s) o) e₀ ∙ ap (opens (lentTo opened m s)) (f .is)))
 
     by : (z : Bool)
         → _≡_ {A = Between}
@@ -203,10 +207,10 @@ program-went {buffer} {o} {c₀} {c₁} {c₂} {m₁} {m₂} {s₂} {o₂} {l₁
     by false =
         ap (λ (r : List ℕ). record { replica = lentTo c₁ m₁ s; output = out; hand = []; region = patch l 0 r; turn = record { have = 0; ended = false; next = 0 } }) (sym (append-nil (lineBytes refusedOpening)))
 
-    begins : between (lentTo c₁ m₁ s) out buffer l₁ t ≡ firstTurn (begun (afterAnswer a (lentTo c₁ m₁ s) []) out) (patch l 0 (linesBytes (begun (afterAnswer a (lentTo c₁ m₁ s) []) out .lines)))
+    begins : between (lentTo c₁ m₁ s) out buffer₁ l₁ t ≡ firstTurn (begun (afterAnswer a (lentTo c₁ m₁ s) []) out) (patch l 0 (linesBytes (begun (afterAnswer a (lentTo c₁ m₁ s) []) out .lines)))
     begins =
-        ap (λ (r : List ℕ). between (lentTo c₁ m₁ s) out buffer r t) (e₂ .1)
-        ∙ (ap (between (lentTo c₁ m₁ s) out buffer (cond (eqb a 0) l (patch l 0 (lineBytes refusedOpening)))) (e₃ ∙ ap (λ (p : Place). record { have = 0; ended = false; next = p .next }) (e₂ .0)) ∙ by (eqb a 0))
+        ap (λ (r : List ℕ). between (lentTo c₁ m₁ s) out buffer₁ r t) (e₂ .1)
+        ∙ (ap (between (lentTo c₁ m₁ s) out buffer₁ (cond (eqb a 0) l (patch l 0 (lineBytes refusedOpening)))) (e₃ ∙ ap (λ (p : Place). record { have = 0; ended = false; next = p .next }) (e₂ .0)) ∙ by (eqb a 0))
 
 pub with-empty-store : {b : Block} {m o l m′ o′ l′ : List ℕ} {s′ : List Block} {t : Turn} → b ≡ emptyBlock
     → Program (2 ^ 62 - 1) m (replicate storeLength b) o l m′ s′ o′ l′ t → ProgramWithStore (2 ^ 62 - 1) m o l m′ o′ l′ t

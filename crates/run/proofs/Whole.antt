@@ -21,7 +21,7 @@ use Rattle.protocol.specs.Refusals.{storeLength, outputLength}
 use Rattle.protocol.specs.Listing.{Line, printed}
 use Rattle.replica.specs.Reply.{lentTo}
 use Rattle.replay.specs.Input.{openingLength, wellFormed, openingOf, pieces}
-use Rattle.replay.specs.Replay.{Ran, run, followedBy, opens, begun, program}
+use Rattle.replay.specs.Replay.{Ran, run, followedBy, opens, opensWith, begun, program}
 use Rattle.replay.specs.Listing.{listingInput}
 use Rattle.replay.proofs.Cutting.{pieces-none}
 use Rattle.replay.proofs.Listing.{program-prints}
@@ -135,7 +135,7 @@ module _ {most : ℕ} {m : List ℕ} {s : List Block} {o l m′ : List ℕ} {s�
 
   -- a first record that is cut short stops the program
   short-stops : length (p .first) < openingLength → begins .next ≡ 0
-  unfolding begun opens openingOf wellFormed
+  unfolding begun opensWith openingOf wellFormed
   short-stops h = rw (ne-eqb (length (p .first)) openingLength (λ e. omega (arith, e, h)))
 
   unread : length (p .first) < openingLength → through (p .went) .read ≡ []

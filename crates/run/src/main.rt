@@ -13,6 +13,7 @@ use refusals::regions::OUTPUT_LENGTH;
 use replay::Place;
 use replay::begin;
 use replay::input::part_of;
+use replay::input::put_in_turn;
 use replay::lines::LINE;
 use replay::open_call;
 use replay::run_steps;
@@ -24,6 +25,7 @@ ghost use mathlib.Core.Path.{_≡_};
 ghost use mathlib.Core.Bool.{true, false};
 ghost use Prim.Native.Nat.{_-_, _^_, _≤_};
 ghost use lib.ListN.{length, take};
+ghost use Rattle.settings.specs.Quorum.{largest};
 ghost use Rattle.replica.specs.Reply.{lentTo};
 ghost use Rattle.replay.specs.Lines.{lineLength};
 ghost use Rattle.replay.specs.Replay.{standing, start, steps};
@@ -162,12 +164,14 @@ fn with_counters(
     buf: &mut [u8],
     lines: &mut [u8],
 ) -> Turn
-    requires { ⌜ lineLength ≤ length (now lines) ⌝ }
+    requires { ⌜ (lineLength ≤ length (now lines)) × (largest ≤ length (now buf)) ⌝ }
     ensures { λ r. ⌜ Program (2 ^ 62 - 1) (now (mem .entry)) (now (store .entry)) (now (out .entry)) (now (lines .entry)) (now (mem .exit)) (now (store .exit)) (now (out .exit)) (now (lines .exit)) r ⌝ }
 {
     let o = reading::first_record(buf);
+    // the first record is read: until more is, the numbers of the leader list stand in its place
+    put_in_turn(buf);
     let mut c = opened();
-    let refusal = open_call(&mut c, mem, store, o);
+    let refusal = open_call(&mut c, mem, store, buf, o);
     let p = begin(lines, refusal);
     printing::print(lines, p.filled);
     let t = first_turn(p);
@@ -175,7 +179,7 @@ fn with_counters(
 }
 
 fn with_store(mem: &mut [u8], out: &mut [u8], buf: &mut [u8], lines: &mut [u8]) -> Turn
-    requires { ⌜ lineLength ≤ length (now lines) ⌝ }
+    requires { ⌜ (lineLength ≤ length (now lines)) × (largest ≤ length (now buf)) ⌝ }
     ensures { λ r. ⌜ ProgramWithStore (2 ^ 62 - 1) (now (mem .entry)) (now (out .entry)) (now (lines .entry)) (now (mem .exit)) (now (out .exit)) (now (lines .exit)) r ⌝ }
 {
     let zero = empty_block();

@@ -9,6 +9,7 @@ use Rattle.walks.proofs.Local.{lend-array, back-array, repeated}
 use types.Part.{rep}
 use lib.ListN.{replicate, length-replicate}
 use Prim.Native.Nat.{_-_, _^_}
+use Rattle.settings.specs.Quorum.{largest}
 use Rattle.replay.specs.Lines.{lineLength}
 use Rattle.run.specs.Running.{emptyBlock, Program}
 use Rattle.run.proofs.Turning.{with-empty-store}
@@ -40,7 +41,7 @@ module _ {M : Type 1} (𝓤 : URA M) (H : Heap 𝓤) (A : Atoms 𝓤) (mem : Mem
   Known C = Triple 𝓤 (C empty-block-def.name) empty-blockᶜ × Triple 𝓤 (C with-counters-def.name) with-countersᶜ
 
 module _ {M : Type 1} (𝓤 : URA M) (H : Heap 𝓤) (A : Atoms 𝓤) (W : Given 𝓤 H A) (mem : Memory → SProp 𝓤) (run : Routine → Fun 𝓤) (κ0 κ1 κ2 κ3 : Lft) (q0 q1 q2 q3 : Share) (m-b m-o : ℕ) (m-γ : GName) (m : List ℕ) (out-b out-o : ℕ) (out-γ : GName) (out : List ℕ) (buf-b buf-o : ℕ) (buf-γ : GName) (buf : List ℕ) (ls-b ls-o : ℕ) (ls-γ : GName) (ls : List ℕ)
-    (m-room : Room u8 (length m)) (out-room : Room u8 (length out)) (buf-room : Room u8 (length buf)) (ls-room : Room u8 (length ls)) (asked : lineLength ≤ length ls) where
+    (m-room : Room u8 (length m)) (out-room : Room u8 (length out)) (buf-room : Room u8 (length buf)) (ls-room : Room u8 (length ls)) (asked : (lineLength ≤ length ls) × (largest ≤ length buf)) where
   abbrev m-n : ℕ
   m-n = length m
 
@@ -90,7 +91,7 @@ module _ {M : Type 1} (𝓤 : URA M) (H : Heap 𝓤) (A : Atoms 𝓤) (W : Given
 
   walks : (𝓣 : Tables 𝓤 H) → Known 𝓤 H A mem run (𝓣 .C) → Walks 𝓤 H A f.ended stayed (WpFn 𝓤 H (𝓣 .C) (𝓣 .Λ) code.function) (f.clauses 𝓤 H A mem run)
   walks 𝓣 known = walked 𝓤 H A f.ended stayed (f.clauses 𝓤 H A mem run) (WpFn 𝓤 H (𝓣 .C) (𝓣 .Λ) code.function) (λ κs. (slice-vals, (slice-vals, (slice-vals, (slice-vals, tt))))) (λ κs. (mut-slice-tells (named 0) (κs .0) u8, (mut-slice-tells (named 1) (κs .1 .0) u8, (mut-slice-tells (named 2) (κs .1 .1 .0) u8, (mut-slice-tells (named 3) (κs .1 .1 .1 .0) u8, tt)))))
-      (λ κs qs bounds a g are. needs 𝓤 (lineLength ≤ length (a .1 .1 .1 .0 .now)) _ (λ asked. walk 𝓤 H A W mem run (κs .0) (κs .1 .0) (κs .1 .1 .0) (κs .1 .1 .1 .0) (qs .0) (qs .1 .0) (qs .1 .1 .0) (qs .1 .1 .1 .0) (a .0 .ptr .0) (a .0 .ptr .1) (a .0 .name) (a .0 .now) (a .1 .0 .ptr .0) (a .1 .0 .ptr .1) (a .1 .0 .name) (a .1 .0 .now) (a .1 .1 .0 .ptr .0) (a .1 .1 .0 .ptr .1) (a .1 .1 .0 .name) (a .1 .1 .0 .now) (a .1 .1 .1 .0 .ptr .0) (a .1 .1 .1 .0 .ptr .1) (a .1 .1 .1 .0 .name) (a .1 .1 .1 .0 .now) (are .0 .0 .1) (are .1 .0 .0 .1) (are .1 .1 .0 .0 .1) (are .1 .1 .1 .0 .0 .1) asked (𝓣 .C) (𝓣 .Λ) (fmOf 𝓤 H (W .laws) 𝓣) known))
+      (λ κs qs bounds a g are. needs 𝓤 ((lineLength ≤ length (a .1 .1 .1 .0 .now)) × (largest ≤ length (a .1 .1 .0 .now))) _ (λ asked. walk 𝓤 H A W mem run (κs .0) (κs .1 .0) (κs .1 .1 .0) (κs .1 .1 .1 .0) (qs .0) (qs .1 .0) (qs .1 .1 .0) (qs .1 .1 .1 .0) (a .0 .ptr .0) (a .0 .ptr .1) (a .0 .name) (a .0 .now) (a .1 .0 .ptr .0) (a .1 .0 .ptr .1) (a .1 .0 .name) (a .1 .0 .now) (a .1 .1 .0 .ptr .0) (a .1 .1 .0 .ptr .1) (a .1 .1 .0 .name) (a .1 .1 .0 .now) (a .1 .1 .1 .0 .ptr .0) (a .1 .1 .1 .0 .ptr .1) (a .1 .1 .1 .0 .name) (a .1 .1 .1 .0 .now) (are .0 .0 .1) (are .1 .0 .0 .1) (are .1 .1 .0 .0 .1) (are .1 .1 .1 .0 .0 .1) asked (𝓣 .C) (𝓣 .Λ) (fmOf 𝓤 H (W .laws) 𝓣) known))
 
   meets : (𝓣 : Tables 𝓤 H) → Known 𝓤 H A mem run (𝓣 .C) → Meets 𝓤 H A f.signature (WpFn 𝓤 H (𝓣 .C) (𝓣 .Λ) code.function) (f.spec 𝓤 H A mem run)
   meets 𝓣 known = walk-meets 𝓤 H A f.ended stayed W goes (f.clauses 𝓤 H A mem run) (WpFn 𝓤 H (𝓣 .C) (𝓣 .Λ) code.function) (WpFn-mono 𝓤 H (W .laws) 𝓣 code.function) (walks 𝓣 known)
