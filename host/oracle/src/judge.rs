@@ -25,7 +25,7 @@ fn refuse_if(condition: bool, refusal: Refusal) -> Judged {
 
 impl Replica {
     /// What refusal 2 asks of the state: 1 ≤ view ≤ 2^62 and an entry certificate of its kind's length. Settings, own
-    /// number and the store's count can't be wrong here.
+    /// number, the leader list's length and the store's count can't be wrong here.
     pub fn is_sound(&self) -> bool {
         let view = self.counters.view;
         View(1) <= view && view <= View::MAX && self.memory.entry.is_sound(self.settings().n())
@@ -116,7 +116,7 @@ impl Replica {
 
     /// 6: "proposal of a view ≥ 1 not by its leader"
     fn judge_leader(&self, proposal: &Proposal<'_>) -> Judged {
-        let by_other = proposal.view != View(0) && self.settings().leader(proposal.view) != proposal.sender;
+        let by_other = proposal.view != View(0) && self.leader(proposal.view) != proposal.sender;
         refuse_if(by_other, Refusal::Party)
     }
 
@@ -174,7 +174,7 @@ impl Replica {
     /// 15 turned round: "not leader, timed ≥ view, voted in it, or view 2^62".
     fn is_turn(&self) -> bool {
         let counters = &self.counters;
-        self.settings().leader(counters.view) == self.own()
+        self.leader(counters.view) == self.own()
             && counters.timed < counters.view
             && counters.high_vote.view != counters.view
             && counters.view != View::MAX

@@ -4,9 +4,10 @@
 //! A record of kind 13 lends counters, memory and store: seed u64 (to find the state again), the lengths lent of memory
 //! (bytes), store (blocks) and output (bytes), u64 each, then counters and the whole rooms of memory and store. The rooms
 //! are a little longer than 01's program needs, so that bytes behind what is lent can be seen to stay; the output's room
-//! is filled with `UNWRITTEN`. It prints `state SEED` and the digests. A kind 12 is an opening of the lent regions; a
-//! record answered with 3 doesn't stop the run. Each call's line is that of the run program with its output in hex, then
-//! the digests of counters, memory, store and output, each of the whole room.
+//! is filled with `UNWRITTEN`. It prints `state SEED` and the digests. A kind 12 is an opening of the lent regions: the
+//! run program's 24 bytes, and behind them the leader list, one byte an entry. A record answered with 3 doesn't stop the
+//! run. Each call's line is that of the run program with its output in hex, then the digests of counters, memory, store
+//! and output, each of the whole room.
 
 use std::io::{self, Write};
 
@@ -93,8 +94,8 @@ impl Rooms {
 
     /// One record as a call on what is lent.
     pub fn step(&mut self, record: &[u8]) -> Reply {
-        if let Some(numbers) = run::opening(record) {
-            return self.regions().open(numbers.map(u64::from));
+        if let Some((numbers, leaders)) = opening(record) {
+            return self.regions().open(numbers.map(u64::from), leaders);
         }
         run::judge_framing(record)?;
         self.regions().call(|replica, out| run::step(replica, record, out))
@@ -104,6 +105,12 @@ impl Rooms {
     fn digests(&self) -> [u64; 4] {
         [&self.counters[..], &self.memory, &self.store, &self.output].map(digest)
     }
+}
+
+/// An opening's five numbers and its leader list, of any length and content.
+fn opening(record: &[u8]) -> Option<([u16; 5], &[u8])> {
+    let (head, leaders) = record.split_at_checked(wire::OPENING)?;
+    Some((run::opening(head)?, leaders))
 }
 
 /// A number by which two contents of a region are told apart, made of sums and remainders alone.

@@ -1,10 +1,12 @@
-//! One replica of the voting core, written from the scope paper (01) alone: state as Rust values, calls that accept
-//! or refuse. 01's words in ours: box = replica, ring = cluster, liar = Byzantine replica, threshold = quorum.
+//! One replica of the voting core, written from the scope paper (01) and its change requests (02) alone: state as Rust
+//! values, calls that accept or refuse. Their words in ours: box = replica, ring = cluster, liar = Byzantine replica,
+//! threshold = quorum.
 
 mod certificate;
 mod faults;
 mod judge;
 mod kept;
+mod leaders;
 mod replica;
 mod rules;
 mod settings;
@@ -21,6 +23,7 @@ pub mod wire;
 pub use certificate::{Certificate, CertificateKind, Timeout};
 pub use faults::Faults;
 pub use kept::{members, BallotRows, Ballots, EntryCertificate, KeptTimeouts, TimeoutRows, Window};
+pub use leaders::Leaders;
 pub use replica::{Counters, Memory, Replica};
 pub use settings::{Protocol, Quorums, Settings};
 pub use store::{Path, Place, Store};

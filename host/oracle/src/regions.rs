@@ -3,6 +3,7 @@
 
 use crate::certificate::{Certificate, CertificateKind};
 use crate::kept::{BallotRows, EntryCertificate, TimeoutRows};
+use crate::leaders::Leaders;
 use crate::replica::{Counters, Memory, Replica};
 use crate::settings::Settings;
 use crate::store::Store;
@@ -21,11 +22,13 @@ pub const OUTPUT: usize = 32_768;
 const NAME: usize = 32;
 const SIGNED: usize = 8 + NAME + 8;
 
-// Places in memory; f, c and k stand at 0, 2 and 4, and from 12 to 16 four bytes are free.
+// Places in memory; f, c and k stand at 0, 2 and 4, and at 14 and 15 two bytes are free.
 pub const OWN: usize = 6;
 pub const BLOCK_COUNT: usize = 8;
 pub const ENTRY_LENGTH: usize = 10;
-pub const ENTRY: usize = 16;
+pub const LEADERS_LENGTH: usize = 12;
+pub const LEADERS: usize = 16;
+pub const ENTRY: usize = LEADERS + Leaders::MOST;
 const VOTES: usize = ENTRY + EntryCertificate::MOST;
 const COMMITS: usize = VOTES + 8 * BALLOT_ROW;
 const TIMEOUTS: usize = COMMITS + 8 * BALLOT_ROW;
@@ -41,13 +44,14 @@ pub struct Regions<'a> {
 }
 
 impl Regions<'_> {
-    /// Opening: 1 by the settings, 2 by the lengths. What was left over in the store and behind the entry certificate
-    /// stays.
-    pub fn open(&mut self, [f, c, k, n, own]: [u64; 5]) -> Reply {
-        let mut opened = Replica::open(f, c, k, n, own)?;
+    /// Opening: 1 by the settings and the leader list, 2 by the lengths. What was left over in the store, behind the
+    /// leader list and behind the entry certificate stays.
+    pub fn open(&mut self, [f, c, k, n, own]: [u64; 5], leaders: &[u8]) -> Reply {
+        let mut opened = Replica::open(f, c, k, n, own, leaders)?;
         if !self.hold_a_replica() {
             return Err(Refusal::Regions);
         }
+        opened.memory.leaders = opened.memory.leaders.over(self.leaders_place());
         let mut entry = self.entry();
         entry.set(opened.memory.entry.record());
         opened.memory.entry = entry;
@@ -83,6 +87,7 @@ impl Regions<'_> {
         let settings = Settings::new(f, c, k)?;
         let own = u16_at(self.memory, OWN);
         let memory = Box::new(Memory {
+            leaders: Leaders::of(u16_at(self.memory, LEADERS_LENGTH).into(), self.leaders_place())?,
             entry: self.entry(),
             votes: ballots_at(self.memory, VOTES),
             commits: ballots_at(self.memory, COMMITS),
@@ -91,6 +96,10 @@ impl Regions<'_> {
         });
         let replica = Replica::of(settings, own, counters_of(self.counters), memory);
         (u32::from(own) < settings.n() && replica.is_sound()).then_some(replica)
+    }
+
+    fn leaders_place(&self) -> [u8; Leaders::MOST] {
+        self.memory[LEADERS..ENTRY].try_into().expect("the place of a leader list")
     }
 
     fn entry(&self) -> EntryCertificate {
@@ -105,9 +114,11 @@ impl Regions<'_> {
     /// Writes the state of a replica, all but its settings and own number, which no call changes.
     pub fn save(&mut self, replica: &Replica) {
         put_counters(self.counters, &replica.counters);
-        let Memory { entry, votes, commits, timeouts, store } = &*replica.memory;
+        let Memory { leaders, entry, votes, commits, timeouts, store } = &*replica.memory;
         put_u16(self.memory, BLOCK_COUNT, store.blocks().len() as u16);
         put_u16(self.memory, ENTRY_LENGTH, entry.record().len() as u16);
+        put_u16(self.memory, LEADERS_LENGTH, leaders.list().len() as u16);
+        put(self.memory, LEADERS, leaders.place());
         put(self.memory, ENTRY, entry.place());
         put_ballots(self.memory, VOTES, votes);
         put_ballots(self.memory, COMMITS, commits);

@@ -4,6 +4,7 @@ use crate::certificate::{Certificate, CertificateKind, Timeout};
 use crate::faults::Faults;
 use crate::judge::{Judged, Placed};
 use crate::kept::{BallotRows, EntryCertificate, TimeoutRows};
+use crate::leaders::Leaders;
 use crate::settings::{Protocol, Settings};
 use crate::store::Store;
 use crate::types::{Block, Name, Refusal, Reply, View, Vote, GENESIS};
@@ -40,6 +41,7 @@ impl Counters {
 /// All that a replica keeps beside its counters.
 #[derive(Clone, Debug, PartialEq, Eq)]
 pub struct Memory {
+    pub leaders: Leaders,
     pub entry: EntryCertificate,
     pub votes: BallotRows,
     pub commits: BallotRows,
@@ -58,22 +60,20 @@ pub struct Replica {
 }
 
 impl Replica {
-    /// Opens a replica: refusal 1 where "settings break a rule above, or own number ≥ n".
-    pub fn open(f: u64, c: u64, k: u64, n: u64, own: u64) -> Result<Replica, Refusal> {
-        Self::open_with(f, c, k, n, own, Faults::NONE)
-    }
-
-    /// The same with errors built in.
-    pub fn open_with(f: u64, c: u64, k: u64, n: u64, own: u64, faults: Faults) -> Result<Replica, Refusal> {
+    /// Opens a replica: refusal 1 where "settings break a rule above, or own number ≥ n", and by 02 for "An entry of n or
+    /// more, or an empty or longer list".
+    pub fn open(f: u64, c: u64, k: u64, n: u64, own: u64, leaders: &[u8]) -> Result<Replica, Refusal> {
         let settings = Settings::new(f, c, k).ok_or(Refusal::Settings)?;
         if u64::from(settings.n()) != n || own >= n {
             return Err(Refusal::Settings);
         }
-        Ok(Self::opened(Protocol::new(settings, faults), own as u16))
+        let leaders = Leaders::new(leaders, settings).ok_or(Refusal::Settings)?;
+        Ok(Self::opened(settings, own as u16, leaders))
     }
 
-    fn opened(protocol: Protocol, own: u16) -> Replica {
+    fn opened(settings: Settings, own: u16, leaders: Leaders) -> Replica {
         let mut memory = Box::new(Memory {
+            leaders,
             entry: EntryCertificate::EMPTY,
             votes: BallotRows::EMPTY,
             commits: BallotRows::EMPTY,
@@ -83,12 +83,17 @@ impl Replica {
         let mut genesis = Vec::new();
         wire::write_block_certificate(&mut genesis, own, &Certificate::GENESIS);
         memory.entry.set(&genesis);
-        Replica { protocol, own, counters: Counters::OPENED, memory }
+        Replica::of(settings, own, Counters::OPENED, memory)
     }
 
     /// A replica of any state, whether or not it is sound.
     pub(crate) fn of(settings: Settings, own: u16, counters: Counters, memory: Box<Memory>) -> Replica {
         Replica { protocol: Protocol::new(settings, Faults::NONE), own, counters, memory }
+    }
+
+    /// The same with these errors built in.
+    pub fn with_faults(self, faults: Faults) -> Replica {
+        Replica { protocol: Protocol::new(self.settings(), faults), ..self }
     }
 
     pub fn settings(&self) -> Settings {
@@ -101,6 +106,11 @@ impl Replica {
 
     pub fn own(&self) -> u16 {
         self.own
+    }
+
+    /// The leader of a view ≥ 1, by the list that is kept.
+    pub fn leader(&self, view: View) -> u16 {
+        self.memory.leaders.leader(view)
     }
 
     /// The call "record" with any bytes. Output is appended to `out`. A refusal changes nothing.

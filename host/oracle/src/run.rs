@@ -3,7 +3,9 @@
 use std::io::{self, Write};
 
 use crate::faults::Faults;
+use crate::leaders::Leaders;
 use crate::replica::Replica;
+use crate::settings::Settings;
 use crate::types::{answer, Refusal, Reply, View};
 use crate::wire::{self, kind};
 
@@ -65,12 +67,13 @@ pub(crate) fn hex(bytes: &[u8]) -> String {
     bytes.iter().map(|byte| format!("{byte:02x}")).collect()
 }
 
-/// The replica that the first record opens, and the input after it.
+/// The replica that the first record opens, and the input after it. 02: "the run program opens with" the list 0 to n−1.
 fn open(input: &[u8], faults: Faults) -> Option<(Replica, &[u8])> {
     let (record, rest) = cut(input)?;
     let [f, c, k, n, own] = opening(record)?.map(u64::from);
-    let replica = Replica::open_with(f, c, k, n, own, faults).ok()?;
-    Some((replica, rest))
+    let leaders = Leaders::in_turn(Settings::new(f, c, k)?);
+    let replica = Replica::open(f, c, k, n, own, leaders.list()).ok()?;
+    Some((replica.with_faults(faults), rest))
 }
 
 /// The five numbers of a well-formed kind 12.

@@ -1,7 +1,6 @@
 //! Settings of a cluster and the quorums that follow from them.
 
 use crate::faults::Faults;
-use crate::types::View;
 
 /// Settings that opening takes. 01: "A ring has n = 3f + 2c + k + 1 boxes, numbered 0 to n−1, n at most 32."
 #[derive(Clone, Copy, Debug, PartialEq, Eq)]
@@ -72,11 +71,6 @@ impl Settings {
     /// 01: "fast release: n−p votes"
     pub const fn fast_quorum(self) -> u32 {
         self.n() - self.p()
-    }
-
-    /// 01: "The leader of view v ≥ 1 is box (v−1) mod n."
-    pub fn leader(self, view: View) -> u16 {
-        ((view.0 - 1) % u64::from(self.n())) as u16
     }
 
     /// The signer set of all replicas.

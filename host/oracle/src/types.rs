@@ -54,7 +54,7 @@ impl Block {
 #[derive(Clone, Copy, Debug, PartialEq, Eq, PartialOrd, Ord, Hash)]
 #[repr(u16)]
 pub enum Refusal {
-    /// opening: settings break a rule, or own number ≥ n
+    /// opening: settings break a rule, own number ≥ n, or no leader list
     Settings = 1,
     /// regions: state that breaks a listed rule
     Regions = 2,

@@ -446,11 +446,17 @@ pub fn write_resent(out: &mut Vec<u8>, sender: u16, record: &[u8]) {
 
 /// The run program's opening. 01: "kind 12 (u16 f, c, k, n, own, 6 zero bytes)", sender 0.
 pub fn write_opening(out: &mut Vec<u8>, numbers: [u16; 5]) {
-    write_header(out, OPENING, kind::OPENING, 0);
+    write_opening_with(out, numbers, &[]);
+}
+
+/// The same with a leader list behind it, for the program over lent regions.
+pub fn write_opening_with(out: &mut Vec<u8>, numbers: [u16; 5], leaders: &[u8]) {
+    write_header(out, OPENING + leaders.len(), kind::OPENING, 0);
     for number in numbers {
         out.extend_from_slice(&number.to_le_bytes());
     }
     out.extend_from_slice(&[0; 6]);
+    out.extend_from_slice(leaders);
 }
 
 /// The run program's timer. 01: "kind 10 (timer, view u64)", sender 0.

@@ -8,9 +8,9 @@ struct Cluster {
 }
 
 impl Cluster {
-    fn open(f: u64, c: u64, k: u64) -> Cluster {
+    fn open(f: u64, c: u64, k: u64, leaders: &[u8]) -> Cluster {
         let n = 3 * f + 2 * c + k + 1;
-        let replicas: Vec<_> = (0..n).map(|own| Replica::open(f, c, k, n, own).unwrap()).collect();
+        let replicas: Vec<_> = (0..n).map(|own| Replica::open(f, c, k, n, own, leaders).unwrap()).collect();
         Cluster { releases: vec![Vec::new(); replicas.len()], replicas }
     }
 
@@ -49,20 +49,23 @@ impl Cluster {
 #[test]
 fn every_view_releases_a_block() {
     for (f, c, k) in [(1, 1, 0), (2, 2, 2), (0, 4, 0), (7, 5, 0)] {
-        let mut cluster = Cluster::open(f, c, k);
-        let n = cluster.replicas.len();
-        for view in 1..40 {
-            cluster.propose((view - 1) % n, [view as u8; 32]).unwrap();
+        let in_turn: Vec<u8> = (0..(3 * f + 2 * c + k + 1) as u8).collect();
+        for leaders in [&in_turn[..], &[4], &[1, 0, 1, 1, 5]] {
+            let mut cluster = Cluster::open(f, c, k, leaders);
+            for view in 1..40 {
+                let leader = leaders[(view - 1) % leaders.len()];
+                cluster.propose(leader.into(), [view as u8; 32]).unwrap();
+            }
+            let expected: Vec<_> = (1..40).map(|view| [view as u8; 32]).collect();
+            assert!(cluster.releases.iter().all(|row| *row == expected), "{f} {c} {k} {leaders:?}");
+            assert!(cluster.replicas.iter().all(|replica| replica.counters.view == View(40)));
         }
-        let expected: Vec<_> = (1..40).map(|view| [view as u8; 32]).collect();
-        assert!(cluster.releases.iter().all(|row| *row == expected), "{f} {c} {k}");
-        assert!(cluster.replicas.iter().all(|replica| replica.counters.view == View(40)));
     }
 }
 
 #[test]
 fn timeouts_lead_to_the_next_view_and_the_chain_goes_on() {
-    let mut cluster = Cluster::open(1, 1, 0);
+    let mut cluster = Cluster::open(1, 1, 0, &[0, 1, 2, 3, 4, 5]);
     cluster.propose(0, [1; 32]).unwrap();
     for who in 0..4 {
         if cluster.replicas[who].counters.view == View(2) && cluster.replicas[who].counters.timed < View(2) {

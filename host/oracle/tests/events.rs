@@ -309,7 +309,7 @@ fn windows_move_by_any_step() {
 #[test]
 fn equal_replicas_keep_the_same() {
     let replica = midway();
-    let changes: [fn(&mut Replica); 9] = [
+    let changes: [fn(&mut Replica); 10] = [
         |r| r.counters.timed = View(1),
         |r| r.memory.votes.row_mut(View(8)).given |= 1 << 4,
         |r| r.memory.votes.row_mut(View(8)).names[3] = name(1),
@@ -317,6 +317,7 @@ fn equal_replicas_keep_the_same() {
         |r| r.memory.commits.row_mut(View(8)).names[3] = name(1),
         |r| r.memory.timeouts.row_mut(View(9)).given = 0,
         |r| r.memory.timeouts.row_mut(View(9)).raw[3][20] = 1,
+        |r| r.memory.leaders = six_led(0, &[1, 0, 2, 3, 4, 5]).memory.leaders,
         |r| r.memory.entry.set(&certificate_record(0, 7, name(SAFE), 0b11_1111)),
         |r| r.memory.store.clear(),
     ];
@@ -337,7 +338,7 @@ fn the_last_view() {
     let out = call(&mut replica, &certificate_record(5, LAST, name(90), FOUR));
     assert_eq!(kinds(&out), [3, 2]);
     assert_eq!(replica.counters.view, View::MAX);
-    assert_eq!(replica.settings().leader(View::MAX), 3);
+    assert_eq!(replica.leader(View::MAX), 3);
     let mut out = Vec::new();
     assert_eq!(answer(replica.timer(View::MAX, &mut out)), 8);
     assert_eq!(answer(replica.timer(View(LAST), &mut out)), 7);

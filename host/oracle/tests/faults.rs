@@ -16,7 +16,7 @@ fn protocol(faults: Faults) -> Protocol {
 }
 
 fn six_with(own: u64, faults: Faults) -> Replica {
-    Replica::open_with(1, 1, 0, 6, own, faults).unwrap()
+    six(own).with_faults(faults)
 }
 
 #[test]

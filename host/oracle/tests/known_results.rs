@@ -1,5 +1,8 @@
 //! 01, "Known results": settings, safe blocks of five timeout certificates, and the listing's calls.
 
+mod common;
+
+use common::six;
 use oracle::{answer, wire, Certificate, Faults, Protocol, Refusal, Replica, Settings, Timeout, View, Vote};
 
 const A: [u8; 32] = [0xA1; 32];
@@ -29,9 +32,9 @@ fn bad_settings_are_refused_1() {
         (1, 1, u64::MAX, 6, 0),
     ];
     for (f, c, k, n, own) in refused {
-        assert_eq!(Replica::open(f, c, k, n, own).err(), Some(Refusal::Settings), "{f} {c} {k} {n} {own}");
+        assert_eq!(Replica::open(f, c, k, n, own, &[0]).err(), Some(Refusal::Settings), "{f} {c} {k} {n} {own}");
     }
-    assert!(Replica::open(0, 4, 0, 9, 8).is_ok());
+    assert!(Replica::open(0, 4, 0, 9, 8, &[0]).is_ok());
 }
 
 /// Timeouts of view 3 from replicas 0, 1, .. with these high votes of view 3 and the genesis certificate.
@@ -76,7 +79,7 @@ fn carried_goes_before_built_and_lowest_sender_first() {
 
 #[test]
 fn three_timeouts_are_refused_9() {
-    let mut replica = Replica::open(1, 1, 0, 6, 5).unwrap();
+    let mut replica = six(5);
     let mut record = Vec::new();
     wire::write_timeout_certificate(&mut record, 0, View(3), &timeouts(&[Some(A), Some(A), Some(B)]));
     assert_eq!(replica.record(&record, &mut Vec::new()), Err(Refusal::Certificate));
@@ -88,7 +91,7 @@ fn three_timeouts_are_refused_9() {
 
 #[test]
 fn calls_of_the_listing() {
-    let mut replica = Replica::open(1, 1, 0, 6, 1).unwrap();
+    let mut replica = six(1);
     let mut out = Vec::new();
     assert_eq!(answer(replica.timer(View(2), &mut out)), 8);
     assert_eq!(replica.timer(View(1), &mut out), Ok(112));

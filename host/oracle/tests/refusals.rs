@@ -288,7 +288,7 @@ fn timeout_certificates_of_any_count() {
         };
         assert_eq!(answer_to(&mut replica.clone(), &record), expected, "{count} timeouts");
     }
-    let mut largest = Replica::open(7, 5, 0, 32, 31).unwrap();
+    let mut largest = Replica::open(7, 5, 0, 32, 31, &[0]).unwrap();
     let timeouts: Vec<_> = (0..33).map(|sender| timeout(sender, 1)).collect();
     assert_eq!(answer_to(&mut largest, &timeouts_record(3, 1, &timeouts)), 5);
     assert_eq!(answer_to(&mut largest, &timeouts_record(3, 1, &timeouts[..32])), 0);

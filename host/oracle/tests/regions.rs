@@ -17,7 +17,7 @@ fn rooms() -> Rooms {
 
 fn opened() -> Rooms {
     let mut rooms = rooms();
-    assert_eq!(rooms.regions().open([1, 1, 0, 6, 2]), Ok(0));
+    assert_eq!(rooms.regions().open([1, 1, 0, 6, 2], &IN_TURN), Ok(0));
     rooms
 }
 
@@ -27,29 +27,35 @@ fn call(rooms: &mut Rooms, record: &[u8]) -> oracle::Reply {
 
 #[test]
 fn lengths_are_the_interfaces() {
-    assert_eq!((regions::COUNTERS, regions::MEMORY, regions::BLOCK, regions::STORE), (224, 34_504, 72, 128 * 72));
+    assert_eq!((regions::COUNTERS, regions::MEMORY, regions::BLOCK, regions::STORE), (224, 34_568, 72, 128 * 72));
 }
 
 #[test]
 fn opening_leaves_the_free_bytes() {
     let Rooms { counters, memory, store, .. } = opened();
     assert_eq!((counters[0], counters[1..].iter().all(|byte| *byte == 0)), (1, true));
-    assert_eq!(memory[..16], [1, 0, 1, 0, 0, 0, 2, 0, 0, 0, 56, 0, 0xEE, 0xEE, 0xEE, 0xEE]);
+    assert_eq!(memory[..16], [1, 0, 1, 0, 0, 0, 2, 0, 0, 0, 56, 0, 6, 0, 0xEE, 0xEE]);
+    assert_eq!(memory[16..22], IN_TURN);
+    assert!(memory[22..80].iter().all(|byte| *byte == 0xEE), "behind the leader list");
     let genesis = record(|out| wire::write_block_certificate(out, 2, &Certificate::GENESIS));
-    assert_eq!(memory[16..72], genesis);
-    assert!(memory[72..3_624].iter().all(|byte| *byte == 0xEE), "behind the entry certificate");
-    assert!(memory[3_624..34_504].iter().all(|byte| *byte == 0), "kept votes, commits and timeouts");
-    assert!(memory[34_504..].iter().chain(&store).all(|byte| *byte == 0xEE));
+    assert_eq!(memory[80..136], genesis);
+    assert!(memory[136..3_688].iter().all(|byte| *byte == 0xEE), "behind the entry certificate");
+    assert!(memory[3_688..34_568].iter().all(|byte| *byte == 0), "kept votes, commits and timeouts");
+    assert!(memory[34_568..].iter().chain(&store).all(|byte| *byte == 0xEE));
 }
 
 #[test]
 fn refused_openings_leave_every_byte() {
     let mut rooms = rooms();
     let before = rooms.clone();
-    assert_eq!(rooms.regions().open([1, 1, 0, 6, 6]), Err(Refusal::Settings));
-    for short in [[34_503, 128, 32_768], [34_504, 127, 32_768]] {
+    assert_eq!(rooms.regions().open([1, 1, 0, 6, 6], &IN_TURN), Err(Refusal::Settings));
+    for list in [&[][..], &[6], &[0; 65]] {
+        rooms.lent = [0, 0, 0]; // 1 comes before 2
+        assert_eq!(rooms.regions().open([1, 1, 0, 6, 2], list), Err(Refusal::Settings));
+    }
+    for short in [[34_567, 128, 32_768], [34_568, 127, 32_768]] {
         rooms.lent = short;
-        assert_eq!(rooms.regions().open([1, 1, 0, 6, 2]), Err(Refusal::Regions));
+        assert_eq!(rooms.regions().open([1, 1, 0, 6, 2], &IN_TURN), Err(Refusal::Regions));
     }
     rooms.lent = before.lent;
     assert!(rooms == before);
@@ -63,11 +69,11 @@ fn votes_commits_and_timeouts_stand_in_their_rows() {
         assert_eq!(call(&mut rooms, &record), Ok(0));
     }
     let row = |at: usize| wire::u64_at(&rooms.memory, at);
-    let vote = 3_624 + 3 * 1_032;
+    let vote = 3_688 + 3 * 1_032;
     assert_eq!((row(vote), wire::name_at(&rooms.memory, vote + 8 + 5 * 32)), (1 << 5, name(7)));
-    let commit = 11_880 + 2 * 1_032;
+    let commit = 11_944 + 2 * 1_032;
     assert_eq!((row(commit), wire::name_at(&rooms.memory, commit + 8 + 4 * 32)), (1 << 4, name(8)));
-    let kept = 20_136; // 4 mod 4
+    let kept = 20_200; // 4 mod 4
     assert_eq!((row(kept), &rooms.memory[kept + 8 + 3 * 112..][..112]), (1 << 3, &raw[..]));
 }
 
@@ -107,12 +113,12 @@ fn entering_zeroes_rows_and_keeps_left_over_bytes() {
     let timeouts: Vec<_> = [0, 1, 3, 4].into_iter().map(|sender| timeout(sender, 1)).collect();
     let long = timeouts_record(3, 1, &timeouts);
     assert_eq!(call(&mut rooms, &long), Ok(long.len()));
-    rooms.memory[3_624 + 8 + 1_032 * 6] = 0xEE; // left over in the row of view 6, which has no mask
+    rooms.memory[3_688 + 8 + 1_032 * 6] = 0xEE; // left over in the row of view 6, which has no mask
     assert_eq!(call(&mut rooms, &certificate_record(3, 2, name(1), FOUR)), Ok(56 + 48));
     assert_eq!(wire::u16_at(&rooms.memory, 10), 56);
-    assert_eq!(rooms.memory[72..16 + long.len()], long[56..]);
-    assert_eq!(rooms.memory[3_624 + 8 + 1_032 * 6], 0);
-    assert_eq!(wire::u64_at(&rooms.memory, 11_880 + 1_032 * 2), 1 << 2, "the own commit");
+    assert_eq!(rooms.memory[136..80 + long.len()], long[56..]);
+    assert_eq!(rooms.memory[3_688 + 8 + 1_032 * 6], 0);
+    assert_eq!(wire::u64_at(&rooms.memory, 11_944 + 1_032 * 2), 1 << 2, "the own commit");
 }
 
 #[test]
@@ -133,7 +139,7 @@ fn refused_calls_leave_every_byte() {
 /// Every rule of refusal 2, one at a time.
 #[test]
 fn regions_that_break_a_rule_are_turned_away() {
-    let breaks: [fn(&mut Rooms); 14] = [
+    let breaks: [fn(&mut Rooms); 17] = [
         |rooms| rooms.lent[0] -= 1,
         |rooms| rooms.lent[1] -= 1,
         |rooms| rooms.lent[2] -= 1,
@@ -143,10 +149,13 @@ fn regions_that_break_a_rule_are_turned_away() {
         |rooms| rooms.memory[8] = 129, // held blocks
         |rooms| rooms.memory[10] = 55, // length of the entry certificate
         |rooms| rooms.memory[10..12].copy_from_slice(&[0xFF, 0xFF]),
-        |rooms| rooms.memory[20] = 4,   // its kind
-        |rooms| rooms.memory[20] = 6,   // its kind, without that length
+        |rooms| rooms.memory[84] = 4,   // its kind
+        |rooms| rooms.memory[84] = 6,   // its kind, without that length
         |rooms| put_timeouts(rooms, 7), // more than n
-        |rooms| rooms.counters[0] = 0,  // view
+        |rooms| rooms.memory[12] = 0,   // length of the leader list
+        |rooms| rooms.memory[12] = 65,
+        |rooms| rooms.memory[13] = 1,
+        |rooms| rooms.counters[0] = 0, // view
         |rooms| rooms.counters[..8].copy_from_slice(&(View::MAX.0 + 1).to_le_bytes()),
     ];
     for (i, break_rule) in breaks.iter().enumerate() {
@@ -159,12 +168,13 @@ fn regions_that_break_a_rule_are_turned_away() {
     }
     let mut rooms = opened();
     put_timeouts(&mut rooms, 6);
+    rooms.memory[12] = 64;
     assert_eq!(call(&mut rooms, &vote_record(3, 1, name(1))), Ok(0));
 }
 
 /// An entry certificate of so many timeouts, whatever they are.
 fn put_timeouts(rooms: &mut Rooms, count: u16) {
     rooms.memory[10..12].copy_from_slice(&(24 + 112 * count).to_le_bytes());
-    rooms.memory[20] = 6;
-    rooms.memory[32..34].copy_from_slice(&count.to_le_bytes());
+    rooms.memory[84] = 6;
+    rooms.memory[96..98].copy_from_slice(&count.to_le_bytes());
 }

@@ -2,7 +2,7 @@
 
 use std::fmt;
 
-use oracle::{answer, wire, Refusal, Replica, Reply};
+use oracle::{answer, wire, Leaders, Refusal, Replica, Reply};
 
 use crate::call::Call;
 
@@ -76,7 +76,7 @@ pub const UNREACHABLE: [(&str, u16, &str); 3] = [
     ("propose", 13, "a held block of height 2^62 takes 2^62 blocks; tests of the oracle set such a state"),
 ];
 
-/// What accepted calls did, read off their output.
+/// What calls did, most of it read off the output of accepted ones.
 #[derive(Clone, Copy, Debug, PartialEq, Eq)]
 pub enum Path {
     /// A: a timeout sent by a call that isn't the timer.
@@ -99,10 +99,16 @@ pub enum Path {
     LastViews,
     /// The store is full.
     FullStore,
+    /// A proposal by a leader that the list 0 to n−1 doesn't have.
+    LedByList,
+    /// None by a leader that only the list 0 to n−1 has: a proposal refused by 6, or a propose by 15.
+    NotLedByList,
+    /// The same in a view whose entry is no replica's; only garbage has such.
+    LedByNobody,
 }
 
 impl Path {
-    pub const ALL: [Path; 10] = [
+    pub const ALL: [Path; 13] = [
         Path::Echo,
         Path::TimeoutCertificateFormed,
         Path::BlockCertificateFormed,
@@ -113,6 +119,9 @@ impl Path {
         Path::WeakAdopted,
         Path::LastViews,
         Path::FullStore,
+        Path::LedByList,
+        Path::NotLedByList,
+        Path::LedByNobody,
     ];
 }
 
@@ -120,7 +129,7 @@ impl Path {
 #[derive(Clone, Debug, Default)]
 pub struct Coverage {
     answers: [[u64; 16]; 10],
-    paths: [u64; 10],
+    paths: [u64; 13],
 }
 
 impl Coverage {
@@ -128,10 +137,35 @@ impl Coverage {
     pub fn count(&mut self, call: &Call, reply: Reply, before: &oracle::Counters, after: &Replica, output: &[u8]) {
         let kind = Kind::of(call);
         self.answers[kind as usize][usize::from(answer(reply))] += 1;
+        self.count_leaders(call, reply, before, after);
         if reply.is_ok() {
             self.count_certificates(kind, before, after, output);
             self.count_releases(after, output);
             self.count_state(before, after);
+        }
+    }
+
+    /// By whose turn a proposal, another's or one's own, was taken or refused.
+    fn count_leaders(&mut self, call: &Call, reply: Reply, before: &oracle::Counters, after: &Replica) {
+        let (view, sender) = match call {
+            Call::Propose(_) => (before.view.0, after.own()),
+            Call::Record(bytes) if Kind::of(call) == Kind::Proposal && bytes.len() >= wire::PROPOSAL => {
+                (wire::u64_at(bytes, 8), wire::sender_of(bytes))
+            }
+            _ => return,
+        };
+        let view = oracle::View(view.max(1)); // nobody leads view 0
+        let leader = after.leader(view);
+        let in_turn = Leaders::in_turn(after.settings()).leader(view);
+        match reply {
+            Ok(_) if leader != in_turn => self.took(Path::LedByList),
+            Err(Refusal::Party | Refusal::Turn) if u32::from(leader) >= after.settings().n() => {
+                self.took(Path::LedByNobody);
+            }
+            Err(Refusal::Party | Refusal::Turn) if sender == in_turn && sender != leader => {
+                self.took(Path::NotLedByList);
+            }
+            _ => {}
         }
     }
 

@@ -1,17 +1,19 @@
 //! Replicas in states that no run leads to: anything in counters, kept records and store that refusal 2 lets by.
 
 use oracle::{
-    wire, Block, Certificate, CertificateKind, EntryCertificate, Height, Memory, Name, RawTimeout, Replica, Store,
-    Timeout, View, Vote,
+    wire, Block, Certificate, CertificateKind, EntryCertificate, Height, Leaders, Memory, Name, RawTimeout, Replica,
+    Store, Timeout, View, Vote,
 };
 
+use crate::leaders::next_led;
 use crate::random::Random;
 use crate::stream::Opening;
 
 /// An opened replica with garbage in its state. Few names and near views make quorums and walks likely.
 pub fn garbage(opening: Opening, random: &mut Random) -> Replica {
     let mut replica = opening.open();
-    let view = view(opening, random);
+    fill_leaders(&mut replica, random);
+    let view = view(&replica, random);
     let spread = random.pick(&[Spread::Whole, Spread::At(0), Spread::At(17), Spread::At(31)]);
     let names = random.pick(&[6, 6, 6, 30, 120]);
     let mut garbage = Garbage { random, view, spread, names };
@@ -23,19 +25,28 @@ pub fn garbage(opening: Opening, random: &mut Random) -> Replica {
     replica
 }
 
+/// Mostly the opening's list; else one of any length, with entries from n on. Behind it stands anything.
+fn fill_leaders(replica: &mut Replica, random: &mut Random) {
+    let n = replica.settings().n() as u8;
+    let bytes: [u8; Leaders::MOST] = std::array::from_fn(|_| random.number() as u8);
+    let leaders = &mut replica.memory.leaders;
+    *leaders = leaders.over(bytes);
+    if random.chance(20) {
+        let (nobody, share) = (random.pick(&[n, u8::MAX]), random.pick(&[10, 50]));
+        let place = bytes.map(|byte| if random.chance(share) { nobody } else { byte % n });
+        *leaders = Leaders::of(1 + random.index(Leaders::MOST), place).expect("1 to 64 entries");
+    }
+}
+
 /// Among the first or the last views, or anywhere; at times one that the replica leads.
-fn view(opening: Opening, random: &mut Random) -> u64 {
+fn view(replica: &Replica, random: &mut Random) -> u64 {
     let view = match random.below(3) {
         0 => random.between(1, 6),
         1 => View::MAX.0 - random.below(8),
         _ => random.between(1, 1 << 61),
     };
-    let led = view - (view - 1) % opening.n + opening.own;
-    if random.chance(40) && led <= View::MAX.0 {
-        led
-    } else {
-        view
-    }
+    let led = next_led(replica, view).filter(|&led| led <= View::MAX.0);
+    led.filter(|_| random.chance(40)).unwrap_or(view)
 }
 
 /// In which bytes names differ.

@@ -5,6 +5,7 @@ use oracle::{
     GENESIS,
 };
 
+use crate::leaders::next_not_led;
 use crate::random::Random;
 
 /// Makes records for one replica.
@@ -264,13 +265,12 @@ impl Maker<'_> {
         self.timeout_certificate_in(sender, view)
     }
 
-    /// The current view or the next ones that another replica leads.
+    /// The current view or the next ones that another replica leads, if there are any.
     fn proposal_view(&mut self) -> u64 {
         let busy = self.replica.counters.high_vote.view.0 == self.view();
         let ahead = if busy || self.random.chance(30) { self.random.weighted(&[(5, 1), (1, 2), (1, 7)]) } else { 0 };
         let view = self.view() + ahead;
-        let own_leads = self.settings().leader(View(view)) == self.replica.own();
-        (view + u64::from(own_leads)).min(View::MAX.0 - 1)
+        next_not_led(self.replica, view).unwrap_or(view).min(View::MAX.0 - 1)
     }
 
     pub fn proposal(&mut self) -> Vec<u8> {
@@ -278,9 +278,19 @@ impl Maker<'_> {
         self.proposal_in(view)
     }
 
+    /// The leader of a view; any replica where garbage has nobody lead it.
+    fn leader_of(&mut self, view: u64) -> u16 {
+        let leader = self.replica.leader(View(view));
+        if u32::from(leader) < self.settings().n() {
+            leader
+        } else {
+            self.any_replica()
+        }
+    }
+
     /// A proposal of this view's leader on a held safe block where there is one.
     pub fn proposal_in(&mut self, view: u64) -> Vec<u8> {
-        let sender = self.settings().leader(View(view));
+        let sender = self.leader_of(view);
         let progress = self.progress(sender, view - 1);
         let safe = self.safe_name(&progress);
         let parent = self.replica.held(&safe);

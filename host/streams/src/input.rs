@@ -34,6 +34,7 @@ pub fn play(opening: Opening, seed: u64, count: usize, coverage: &mut Coverage) 
 /// An input of the run program with so many calls. A record that the program answers with 3 ends a run, so it is
 /// left out but as the last one.
 pub fn input(opening: Opening, seed: u64, count: usize) -> Vec<u8> {
+    assert!(opening.is_in_turn(), "the run program opens with 0 to n−1");
     let mut replica = opening.open();
     let mut stream = Stream::new(seed);
     let mut random = Random::new(seed ^ 0x0072_756E);
@@ -72,8 +73,13 @@ fn as_input(call: Call, opening: Opening, random: &mut Random) -> Vec<u8> {
 impl Opening {
     /// The record that opens a run.
     pub fn encode(&self) -> Vec<u8> {
+        self.encode_with(&[])
+    }
+
+    /// The record that opens lent regions with this list.
+    pub fn encode_with(&self, leaders: &[u8]) -> Vec<u8> {
         let mut bytes = Vec::new();
-        wire::write_opening(&mut bytes, [self.f, self.c, self.k, self.n, self.own].map(|number| number as u16));
+        wire::write_opening_with(&mut bytes, self.numbers().map(|number| number as u16), leaders);
         bytes
     }
 }

@@ -49,6 +49,7 @@ pub fn lent_input(seeds: Range<u64>, calls: usize, coverage: &mut LentCoverage) 
 fn state_and_calls(seed: u64, calls: usize, coverage: &mut LentCoverage) -> Vec<u8> {
     let mut random = Random::new(seed ^ 0x6C65_6E74);
     let opening = if random.chance(40) { Opening::seeded(seed) } else { Opening::any(&mut random) };
+    let opening = opening.led(&mut random);
     let mut rooms = garbage_rooms(opening, &mut random);
     let sound = garbage(opening, &mut random); // for calls on a state that is turned away
     let mut stream = Stream::restless(seed);
@@ -94,11 +95,13 @@ fn framed(stream: &mut Stream, replica: &Replica) -> Call {
 
 /// An opening over what is lent: mostly one that is accepted.
 fn any_opening(opening: Opening, random: &mut Random) -> Vec<u8> {
-    let mut other = Opening::seeded(random.number());
+    let mut other = Opening::seeded_led(random.number());
     if random.chance(30) {
         other.own = other.n;
     }
-    random.pick(&[opening, other]).encode()
+    let one = random.pick(&[opening, other]);
+    let list = if random.chance(15) { one.spoilt_list(random) } else { one.leaders.list().to_vec() };
+    one.encode_with(&list)
 }
 
 /// Counts a call, and compares it with 01's loop to the letter.
@@ -123,7 +126,7 @@ pub fn garbage_rooms(opening: Opening, random: &mut Random) -> Rooms {
     let mut rooms = Rooms::empty();
     scatter(&mut rooms.memory, random);
     scatter(&mut rooms.store, random);
-    rooms.regions().open([opening.f, opening.c, opening.k, opening.n, opening.own]).expect("settings that are taken");
+    rooms.regions().open(opening.numbers(), opening.leaders.list()).expect("settings and a list that are taken");
     let replica = if random.chance(25) { played(opening, random) } else { garbage(opening, random) };
     rooms.regions().save(&replica);
     if random.chance(50) {
@@ -150,11 +153,11 @@ pub fn scatter(bytes: &mut [u8], random: &mut Random) {
     }
 }
 
-/// Random bytes in some places, all but those that refusal 2 asks about: view, settings, own number, block count, and the
-/// entry certificate's length, kind and count.
+/// Random bytes in some places, all but those that refusal 2 asks about: view, settings, own number, block count, the
+/// entry certificate's length, kind and count, and the leader list's length.
 fn damage(rooms: &mut Rooms, random: &mut Random) {
     let view = wire::u64_at(&rooms.counters, 0);
-    let asked = [0..12, regions::ENTRY + 4..regions::ENTRY + 6, regions::ENTRY + 16..regions::ENTRY + 18];
+    let asked = [0..14, regions::ENTRY + 4..regions::ENTRY + 6, regions::ENTRY + 16..regions::ENTRY + 18];
     let kept = asked.clone().map(|place| rooms.memory[place].to_vec());
     for _ in 0..random.between(1, 12) {
         let region = match random.below(8) {
@@ -177,7 +180,7 @@ fn break_rule(rooms: &mut Rooms, random: &mut Random) {
     let [_, store, output] = rooms.lent;
     let n = u16::try_from(rooms.regions().load().expect("sound").settings().n()).expect("at most 32");
     let any = random.number();
-    match random.below(13) {
+    match random.below(14) {
         0 => rooms.lent[0] = regions::MEMORY - 1,
         1 => rooms.lent = [regions::MEMORY - 1 - random.index(regions::MEMORY), store, output],
         2 => rooms.lent[1] = random.pick(&[Store::ROOM - 1, 0]),
@@ -193,6 +196,7 @@ fn break_rule(rooms: &mut Rooms, random: &mut Random) {
         9 => put_u16(rooms, regions::ENTRY_LENGTH, random.pick(&[0, 23, 24, 55, 57, 3609, u16::MAX, any as u16])),
         10 => put_u16(rooms, regions::ENTRY + 4, random.pick(&[0, 3, 4, 5, 6, 7, any as u16])),
         11 => put_u16(rooms, regions::ENTRY + 16, random.pick(&[n, n + 1, any as u16])),
+        12 => put_u16(rooms, regions::LEADERS_LENGTH, random.pick(&[0, 0, 65, 65, 256, 257, u16::MAX])),
         _ => put_entry(rooms, random.pick(&[n + 1, Settings::MAX_N as u16 + 1])),
     }
 }

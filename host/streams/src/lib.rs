@@ -6,6 +6,7 @@ mod coverage;
 mod garbage;
 mod good;
 mod input;
+mod leaders;
 mod lent;
 mod random;
 mod spoil;

@@ -150,7 +150,7 @@ impl Maker<'_> {
     /// Makes the view's leader the sender, and at times the inner views fit.
     fn fit_proposal(&mut self, record: &mut [u8], view: u64) {
         if view > 0 && self.random.chance(85) {
-            let leader = self.settings().leader(View(view));
+            let leader = self.replica.leader(View(view));
             put_u16(record, 6, leader);
             put_u16(record, INNER + 6, leader);
         }
@@ -306,7 +306,7 @@ impl Maker<'_> {
     fn voted_proposal(&mut self) -> Option<Vec<u8>> {
         let high_vote = self.replica.counters.high_vote;
         let view = self.view();
-        if view == View::MAX.0 || self.settings().leader(View(view)) == self.replica.own() {
+        if view == View::MAX.0 || self.replica.leader(View(view)) == self.replica.own() {
             return None;
         }
         let mut proposal = self.proposal_in(view);

@@ -1,16 +1,17 @@
 //! A stream of calls: moods that last a while, good calls and spoiled ones.
 
-use oracle::{Replica, Settings, View};
+use oracle::{Leaders, Replica, Settings, View};
 
 use crate::call::Call;
 use crate::good::Maker;
+use crate::leaders::next_led;
 use crate::random::Random;
 
 /// Settings that streams are opened with: 01's three, f = 0, and others with k > 0.
 pub const SETTINGS: [(u64, u64, u64); 7] =
     [(1, 1, 0), (2, 2, 2), (7, 5, 0), (0, 4, 0), (0, 3, 0), (2, 3, 2), (3, 4, 1)];
 
-/// The five numbers of an opening.
+/// The five numbers of an opening, and its leader list.
 #[derive(Clone, Copy, Debug, PartialEq, Eq)]
 pub struct Opening {
     pub f: u64,
@@ -18,21 +19,28 @@ pub struct Opening {
     pub k: u64,
     pub n: u64,
     pub own: u64,
+    pub leaders: Leaders,
 }
 
 impl Opening {
-    /// None where the settings or the own number are refused.
+    /// None where the settings or the own number are refused. The list is 0 to n−1.
     pub fn new(f: u64, c: u64, k: u64, own: u64) -> Option<Opening> {
-        let n = u64::from(Settings::new(f, c, k)?.n());
-        (own < n).then_some(Opening { f, c, k, n, own })
+        let settings = Settings::new(f, c, k)?;
+        let n = u64::from(settings.n());
+        (own < n).then_some(Opening { f, c, k, n, own, leaders: Leaders::in_turn(settings) })
     }
 
-    /// One of `SETTINGS`, and any own number.
+    /// One of `SETTINGS`, and any own number. The list is 0 to n−1, the one that the run program opens with.
     pub fn seeded(seed: u64) -> Opening {
         let mut random = Random::new(seed ^ 0x6F70_656E);
         let (f, c, k) = random.pick(&SETTINGS);
         let n = 3 * f + 2 * c + k + 1;
-        Opening { f, c, k, n, own: random.below(n) }
+        Opening::new(f, c, k, random.below(n)).expect("good settings")
+    }
+
+    /// The same with a list that follows from the seed too.
+    pub fn seeded_led(seed: u64) -> Opening {
+        Opening::seeded(seed).led(&mut Random::new(seed ^ 0x006C_6561_6473))
     }
 
     /// Any settings that are taken, among them those by which two names of a view can both have enough commits
@@ -49,7 +57,13 @@ impl Opening {
     }
 
     pub fn open(&self) -> Replica {
-        Replica::open(self.f, self.c, self.k, self.n, self.own).expect("settings that opening takes")
+        let [f, c, k, n, own] = self.numbers();
+        Replica::open(f, c, k, n, own, self.leaders.list()).expect("settings and a list that opening takes")
+    }
+
+    /// f, c, k, n and own.
+    pub fn numbers(&self) -> [u64; 5] {
+        [self.f, self.c, self.k, self.n, self.own]
     }
 }
 
@@ -253,17 +267,16 @@ impl Maker<'_> {
 
     fn may_propose(&self) -> bool {
         let counters = &self.replica.counters;
-        self.settings().leader(counters.view) == self.replica.own()
+        self.replica.leader(counters.view) == self.replica.own()
             && counters.timed < counters.view
             && counters.high_vote.view < counters.view
             && counters.view < View::MAX
     }
 
-    /// A certificate by which the replica enters the next view that it leads.
+    /// A certificate by which the replica enters the next view that it leads, or just the next one if it never does.
     fn hand_over(&mut self) -> Vec<u8> {
-        let n = u64::from(self.settings().n());
-        let own = u64::from(self.replica.own());
-        let view = self.view() + (own + n - self.view() % n) % n;
+        let entered = self.view() + 1;
+        let view = next_led(self.replica, entered).unwrap_or(entered) - 1;
         let view = view.min(View::MAX.0 - 1);
         if self.random.chance(50) {
             return self.block_certificate_in(view);

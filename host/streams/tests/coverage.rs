@@ -1,24 +1,24 @@
 //! Streams reach every answer and every path, and one seed always gives the same.
 
-use streams::{input, play, Coverage, Opening, Stream};
+use streams::{input, play, Coverage, Opening, Path, Stream};
 
 #[test]
 fn every_reachable_answer_and_path_comes_up() {
     let mut coverage = Coverage::default();
     for seed in 0..100 {
-        play(Opening::seeded(seed), seed, 1000, &mut coverage);
+        play(Opening::seeded_led(seed), seed, 1000, &mut coverage);
     }
     println!("{coverage}");
     assert_eq!(coverage.missing(), [], "reachable pairs (kind, answer)");
     assert_eq!(coverage.unlisted(), [], "pairs that 01's table doesn't have");
-    assert_eq!(coverage.missing_paths(), []);
+    assert_eq!(coverage.missing_paths(), [Path::LedByNobody], "opening refuses such a list");
     assert!(coverage.accepted_percent() >= 30, "{} % accepted", coverage.accepted_percent());
 }
 
 #[test]
 fn refused_calls_change_nothing() {
     for seed in 1000..1010 {
-        let mut replica = Opening::seeded(seed).open();
+        let mut replica = Opening::seeded_led(seed).open();
         let mut stream = Stream::new(seed);
         let mut out = Vec::new();
         for _ in 0..500 {

@@ -13,7 +13,7 @@ fn phases_are_the_literal_loop() {
     let mut random = Random::new(1);
     let mut ran = literal::Ran::default();
     for seed in 0..20_000 {
-        let start = garbage(Opening::seeded(seed), &mut random);
+        let start = garbage(Opening::seeded_led(seed), &mut random);
         compare(with_faults(start, &mut random), &mut ran);
     }
     assert!(ran.iter().all(|&times| times > 4_000), "every rule ran often: {ran:?}");
@@ -27,12 +27,7 @@ fn with_faults(replica: Replica, random: &mut Random) -> Replica {
             faults.set(name);
         }
     }
-    let settings = replica.settings();
-    let [f, c, k, n] = [settings.f(), settings.c(), settings.k(), settings.n()].map(u64::from);
-    let mut faulty = Replica::open_with(f, c, k, n, replica.own().into(), faults).unwrap();
-    faulty.counters = replica.counters;
-    faulty.memory = replica.memory;
-    faulty
+    replica.with_faults(faults)
 }
 
 fn compare(start: Replica, ran: &mut literal::Ran) {
@@ -52,7 +47,7 @@ fn no_call_traps() {
     let mut accepted = 0;
     let mut out = Vec::new();
     for seed in 0..3_000 {
-        let mut replica = garbage(Opening::seeded(seed), &mut random);
+        let mut replica = garbage(Opening::seeded_led(seed), &mut random);
         assert!(replica.is_sound());
         let mut stream = Stream::new(seed);
         for _ in 0..20 {

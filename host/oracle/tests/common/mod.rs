@@ -70,8 +70,15 @@ pub fn kinds(output: &[u8]) -> Vec<u16> {
     wire::records(output).map(wire::kind_of).collect()
 }
 
+/// The list 0 to n−1 of six.
+pub const IN_TURN: [u8; 6] = [0, 1, 2, 3, 4, 5];
+
 pub fn six(own: u64) -> Replica {
-    Replica::open(1, 1, 0, 6, own).unwrap()
+    six_led(own, &IN_TURN)
+}
+
+pub fn six_led(own: u64, leaders: &[u8]) -> Replica {
+    Replica::open(1, 1, 0, 6, own, leaders).unwrap()
 }
 
 pub const SAFE: u8 = 2;

@@ -84,7 +84,7 @@ fn write_files(directory: &Path, first: u64, count: u64, calls: usize) -> io::Re
 fn print_coverage(first: u64, count: u64, calls: usize) {
     let mut coverage = Coverage::default();
     for seed in first..first + count {
-        play(Opening::seeded(seed), seed, calls, &mut coverage);
+        play(Opening::seeded_led(seed), seed, calls, &mut coverage);
     }
     println!("{coverage}");
     println!("not reached: {:?} {:?}", coverage.missing(), coverage.missing_paths());
