@@ -79,7 +79,7 @@ impl Life {
     pub fn propose(&mut self) {
         let block = self.child(&self.top.clone());
         let view = self.view();
-        let leader = self.replica.settings().leader(view);
+        let leader = self.replica.leader(view);
         if leader == self.replica.own() {
             assert!(self.make(Call::Propose(block.name)), "it leads the view");
         } else {
@@ -94,7 +94,7 @@ impl Life {
     pub fn propose_next(&mut self, block: &Block) {
         let settings = self.replica.settings();
         let (view, next) = (self.view(), View(self.view().0 + 1));
-        let leader = settings.leader(next);
+        let leader = self.replica.leader(next);
         let signers = (1 << settings.block_quorum()) - 1;
         let mut progress = Vec::new();
         wire::write_block_certificate(&mut progress, leader, &Certificate::block(view, block.parent, signers));

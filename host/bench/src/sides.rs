@@ -55,9 +55,11 @@ impl Library {
 }
 
 impl Side for Library {
-    fn open(&mut self, Opening { f, c, k, n, own }: Opening) {
-        let reply = raw::open(&mut self.counters, &mut self.memory, &self.store, Settings { f, c, k, n }, own);
-        assert_eq!(reply.refusal, 0, "settings that opening takes");
+    fn open(&mut self, opening: Opening) {
+        let [f, c, k, n, own] = opening.numbers();
+        let (settings, leaders) = (Settings { f, c, k, n }, opening.leaders.list());
+        let reply = raw::open(&mut self.counters, &mut self.memory, &self.store, settings, own, leaders);
+        assert_eq!(reply.refusal, 0, "settings and a list that opening takes");
     }
 
     fn make(&mut self, call: &Call) -> bool {

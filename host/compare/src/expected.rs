@@ -25,8 +25,8 @@ impl Expected {
     pub fn step(&mut self, step: &Step) -> Reply {
         self.rooms.lent = step.lent;
         match &step.call {
-            AnyCall::Open(numbers) => {
-                self.rooms.regions().open(*numbers)?;
+            AnyCall::Open(numbers, leaders) => {
+                self.rooms.regions().open(*numbers, leaders)?;
                 self.load();
                 Ok(0)
             }
@@ -50,23 +50,10 @@ impl Expected {
     fn load(&mut self) {
         let Rooms { memory, store, output, .. } = &self.rooms;
         self.rooms.lent = [memory.len(), store.len() / regions::BLOCK, output.len()];
-        self.replica = self.rooms.regions().load().map(|replica| with_faults(replica, self.faults));
+        self.replica = self.rooms.regions().load().map(|replica| replica.with_faults(self.faults));
     }
 }
 
 fn is_enough([memory, store, output]: [usize; 3]) -> bool {
     memory >= regions::MEMORY && store * regions::BLOCK >= regions::STORE && output >= regions::OUTPUT
-}
-
-/// The same state in a replica that makes these errors.
-fn with_faults(replica: Replica, faults: Faults) -> Replica {
-    if faults == Faults::NONE {
-        return replica;
-    }
-    let settings = replica.settings();
-    let [f, c, k, n] = [settings.f(), settings.c(), settings.k(), settings.n()].map(u64::from);
-    let mut faulty = Replica::open_with(f, c, k, n, replica.own().into(), faults).expect("settings that were loaded");
-    faulty.counters = replica.counters;
-    faulty.memory = replica.memory;
-    faulty
 }

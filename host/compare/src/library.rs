@@ -49,9 +49,9 @@ impl Library {
             output: &mut self.output[GUARD..GUARD + output],
         };
         match &step.call {
-            AnyCall::Open([f, c, k, n, own]) => {
+            AnyCall::Open([f, c, k, n, own], leaders) => {
                 let settings = Settings { f: *f, c: *c, k: *k, n: *n };
-                raw::open(lent.counters, lent.memory, lent.store, settings, *own)
+                raw::open(lent.counters, lent.memory, lent.store, settings, *own, leaders)
             }
             AnyCall::Call(Call::Record(bytes)) => lent.record(bytes),
             AnyCall::Call(Call::Timer(view)) => lent.timer(*view),

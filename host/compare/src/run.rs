@@ -136,6 +136,7 @@ impl Script {
     fn new(run: Run) -> Script {
         let mut random = Random::new(run.seed ^ 0x636F_6D70);
         let opening = if random.chance(60) { Opening::seeded(run.seed) } else { Opening::any(&mut random) };
+        let opening = opening.led(&mut random);
         let sound = garbage(opening, &mut random);
         let (start, stream) = match run.kind {
             Kind::Opened => (random_rooms(&mut random), Stream::new(run.seed)),
@@ -147,12 +148,13 @@ impl Script {
     fn next(&mut self, replica: Option<&Replica>) -> Step {
         if !self.begun {
             self.begun = true;
-            return Step { lent: EXACT, call: AnyCall::Open(numbers(self.opening)) };
+            let leaders = self.opening.leaders.list().to_vec();
+            return Step { lent: EXACT, call: AnyCall::Open(self.opening.numbers(), leaders) };
         }
         let lent = self.lengths();
         let openings = if replica.is_some() { 2 } else { 300 };
         if self.random.below(1000) < openings {
-            return Step { lent, call: AnyCall::Open(self.any_opening()) };
+            return Step { lent, call: self.any_opening() };
         }
         match self.random.below(1000) {
             0..3 => return Step { lent, call: AnyCall::Call(Call::Record(self.noise())) },
@@ -179,10 +181,15 @@ impl Script {
         lent
     }
 
-    /// Settings that are taken or nearly taken, or any numbers.
-    fn any_opening(&mut self) -> [u64; 5] {
-        let other = Opening::any(&mut self.random);
-        let mut five = numbers(self.random.pick(&[self.opening, other]));
+    /// Settings and a list that are taken or nearly taken, or any numbers.
+    fn any_opening(&mut self) -> AnyCall {
+        let other = Opening::any(&mut self.random).led(&mut self.random);
+        let opening = self.random.pick(&[self.opening, other]);
+        AnyCall::Open(self.any_numbers(opening), self.any_list(opening))
+    }
+
+    fn any_numbers(&mut self, opening: Opening) -> [u64; 5] {
+        let mut five = opening.numbers();
         if self.random.chance(40) {
             let i = self.random.index(5);
             let any = self.random.number();
@@ -191,6 +198,18 @@ impl Script {
             five[i] = self.random.pick(&[near, near, wrapped, five[3], 1 << 62, u64::MAX, any]);
         }
         five
+    }
+
+    fn any_list(&mut self, opening: Opening) -> Vec<u8> {
+        match self.random.below(10) {
+            0..3 => opening.spoilt_list(&mut self.random),
+            3 => {
+                let mut bytes = vec![0; self.random.index(80)];
+                scatter(&mut bytes, &mut self.random);
+                bytes
+            }
+            _ => opening.leaders.list().to_vec(),
+        }
     }
 
     /// A timeout certificate of any count, at times inside a proposal: its lengths are right, its senders ascend, and all but
@@ -232,10 +251,6 @@ impl Script {
 /// What is lent at least, and at most.
 const EXACT: [usize; 3] = [regions::MEMORY, Store::ROOM, regions::OUTPUT];
 const ROOM: [usize; 3] = [MEMORY_ROOM, STORE_ROOM, OUTPUT_ROOM];
-
-fn numbers(opening: Opening) -> [u64; 5] {
-    [opening.f, opening.c, opening.k, opening.n, opening.own]
-}
 
 fn random_rooms(random: &mut Random) -> Rooms {
     let mut rooms = Rooms::empty();

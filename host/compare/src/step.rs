@@ -7,8 +7,8 @@ use streams::Call;
 
 #[derive(Clone, Debug, PartialEq, Eq)]
 pub enum AnyCall {
-    /// f, c, k, n and own, any numbers.
-    Open([u64; 5]),
+    /// f, c, k, n and own, any numbers, and a leader list of any bytes.
+    Open([u64; 5], Vec<u8>),
     Call(Call),
 }
 
@@ -24,9 +24,10 @@ impl fmt::Display for Step {
         let [memory, store, output] = self.lent;
         write!(f, "{memory} {store} {output} ")?;
         match &self.call {
-            AnyCall::Open(numbers) => {
+            AnyCall::Open(numbers, leaders) => {
                 write!(f, "open")?;
-                numbers.iter().try_for_each(|number| write!(f, " {number}"))
+                numbers.iter().try_for_each(|number| write!(f, " {number}"))?;
+                write!(f, " {}", hex(leaders))
             }
             AnyCall::Call(Call::Record(bytes)) => write!(f, "record {}", hex(bytes)),
             AnyCall::Call(Call::Timer(view)) => write!(f, "timer {view}"),
@@ -52,9 +53,11 @@ fn parse(line: &str) -> Option<Step> {
     let (lent, rest) = words.split_at_checked(3)?;
     let lent = numbers(lent)?.map(|length| length as usize);
     let call = match rest {
-        ["open", five @ ..] => AnyCall::Open(numbers(five)?),
-        ["record"] => AnyCall::Call(Call::Record(Vec::new())),
-        ["record", bytes] => AnyCall::Call(Call::Record(unhex(bytes)?)),
+        ["open", rest @ ..] => {
+            let (five, leaders) = rest.split_at_checked(5)?;
+            AnyCall::Open(numbers(five)?, bytes(leaders)?)
+        }
+        ["record", rest @ ..] => AnyCall::Call(Call::Record(bytes(rest)?)),
         ["timer", view] => AnyCall::Call(Call::Timer(view.parse().ok()?)),
         ["propose", name] => AnyCall::Call(Call::Propose(unhex(name)?.try_into().ok()?)),
         _ => return None,
@@ -67,8 +70,40 @@ fn numbers<const COUNT: usize>(words: &[&str]) -> Option<[u64; COUNT]> {
     numbers.try_into().ok()
 }
 
+/// One word, or none for no bytes.
+fn bytes(words: &[&str]) -> Option<Vec<u8>> {
+    match words {
+        [] => Some(Vec::new()),
+        [word] => unhex(word),
+        _ => None,
+    }
+}
+
 fn unhex(text: &str) -> Option<Vec<u8>> {
     let digits = text.chars().map(|digit| digit.to_digit(16)).collect::<Option<Vec<u32>>>()?;
     let pairs = digits.chunks_exact(2);
     pairs.remainder().is_empty().then(|| pairs.map(|pair| (pair[0] * 16 + pair[1]) as u8).collect())
+}
+
+#[cfg(test)]
+mod tests {
+    use super::*;
+
+    #[test]
+    fn a_printed_step_reads_back() {
+        for call in [
+            AnyCall::Open([1, 1, 0, 6, u64::MAX], vec![]),
+            AnyCall::Open([1, 1, 0, 6, 2], vec![0, 5, 255]),
+            AnyCall::Call(Call::Record(vec![])),
+            AnyCall::Call(Call::Record(vec![0, 16, 255])),
+            AnyCall::Call(Call::Timer(7)),
+            AnyCall::Call(Call::Propose([9; 32])),
+        ] {
+            let step = Step { lent: [34_568, 128, 0], call };
+            assert_eq!(step.to_string().parse(), Ok(step));
+        }
+        for line in ["", "1 2 3", "1 2 3 open 1 1 0 6", "1 2 3 open 1 1 0 6 2 00 05", "1 2 3 record 0", "1 2 timer 1"] {
+            assert_eq!(line.parse::<Step>(), Err(format!("not a step: {line}")));
+        }
+    }
 }

@@ -2,7 +2,7 @@
 
 use std::fmt;
 
-use oracle::{answer, Counters, Refusal, Reply};
+use oracle::{answer, Counters, Leaders, Refusal, Replica, Reply};
 use streams::{Coverage, Kind, Path, REACHABLE};
 
 use crate::expected::Expected;
@@ -13,14 +13,19 @@ use crate::step::{AnyCall, Step};
 pub struct Tally {
     pub calls: Coverage,
     pub openings: [u64; 3],
+    /// Openings refused for their leader list alone: empty, longer than 64, with an entry from n on.
+    pub lists: [u64; 3],
 }
 
 impl Tally {
     /// Counts a call that both sides made alike.
     pub fn count(&mut self, step: &Step, reply: Reply, before: Option<Counters>, after: &Expected) {
         let call = match &step.call {
-            AnyCall::Open(_) => {
+            AnyCall::Open(numbers, leaders) => {
                 self.openings[usize::from(answer(reply))] += 1;
+                if reply == Err(Refusal::Settings) && settings_are_taken(*numbers) {
+                    self.lists[broken_rule(leaders)] += 1;
+                }
                 return;
             }
             AnyCall::Call(call) => call,
@@ -64,6 +69,19 @@ impl Tally {
     }
 }
 
+fn settings_are_taken([f, c, k, n, own]: [u64; 5]) -> bool {
+    Replica::open(f, c, k, n, own, &[0]).is_ok()
+}
+
+/// Which rule a list breaks that is refused.
+fn broken_rule(leaders: &[u8]) -> usize {
+    match leaders.len() {
+        0 => 0,
+        length if length > Leaders::MOST => 1,
+        _ => 2,
+    }
+}
+
 /// What streams can reach, and what lent states add: 2 for every kind, and 13 for propose.
 fn pairs() -> Vec<(Kind, u16)> {
     let mut pairs = vec![(Kind::Propose, 13)];
@@ -77,8 +95,10 @@ fn pairs() -> Vec<(Kind, u16)> {
 impl fmt::Display for Tally {
     fn fmt(&self, f: &mut fmt::Formatter<'_>) -> fmt::Result {
         let [accepted, settings, regions] = self.openings;
+        let [empty, longer, outside] = self.lists;
         writeln!(f, "{}", self.calls)?;
         writeln!(f, "openings: {accepted} accepted, {settings} refused by 1, {regions} by 2")?;
+        writeln!(f, "for the list alone: {empty} empty, {longer} too long, {outside} with an entry from n on")?;
         write!(f, "{} calls compared, {} % accepted, ", self.compared(), self.accepted_percent())?;
         write!(f, "{} pairs (kind of call, answer), missing {:?}", self.pairs_hit(), self.missing())
     }

@@ -2,7 +2,7 @@
 
 use compare::{compare_part, Kind, Tally};
 use oracle::Faults;
-use streams::Kind as Call;
+use streams::{Kind as Call, Path};
 
 fn number(variable: &str, otherwise: u64) -> u64 {
     std::env::var(variable).map_or(otherwise, |text| text.parse().expect("a number"))
@@ -18,19 +18,24 @@ fn compare_half(kind: Kind) -> Tally {
     assert!(tally.compared() >= calls);
     assert!(tally.accepted_percent() >= 30);
     assert_eq!(tally.unlisted(), [], "pairs that 01's table doesn't have");
-    assert_eq!(tally.missing_paths(), []);
     assert!(tally.openings.iter().all(|&times| times > 0), "openings accepted, refused by 1 and by 2");
+    assert!(tally.lists.iter().all(|&times| times > 0), "leader lists that are empty, too long, or have other numbers");
     tally
 }
 
-/// Openings over random bytes and long streams. The one pair missing takes a held block of height 2^62; garbage has it.
+/// Openings over random bytes and long streams. The one pair missing takes a held block of height 2^62, the one path a
+/// list that opening refuses; garbage has both.
 #[test]
 fn library_and_oracle_agree_from_openings() {
-    assert_eq!(compare_half(Kind::Opened).missing(), [(Call::Propose, 13)]);
+    let tally = compare_half(Kind::Opened);
+    assert_eq!(tally.missing(), [(Call::Propose, 13)]);
+    assert_eq!(tally.missing_paths(), [Path::LedByNobody]);
 }
 
 /// Garbage counters, memory and store: each pair of 01's table comes up, 2 for every kind of call.
 #[test]
 fn library_and_oracle_agree_from_garbage() {
-    assert_eq!(compare_half(Kind::Garbage).missing(), []);
+    let tally = compare_half(Kind::Garbage);
+    assert_eq!(tally.missing(), []);
+    assert_eq!(tally.missing_paths(), []);
 }

@@ -64,6 +64,7 @@ struct Regions {
     store: Fenced<Block>,
     output: Fenced<u8>,
     record: Fenced<u8>,
+    leaders: Fenced<u8>,
 }
 
 impl Regions {
@@ -74,6 +75,7 @@ impl Regions {
             store: Fenced::new(2 * raw::STORE),
             output: Fenced::new(2 * raw::OUTPUT),
             record: Fenced::new(1 << 17),
+            leaders: Fenced::new(PAGE),
         }
     }
 
@@ -87,9 +89,10 @@ impl Regions {
             output: self.output.hold(output, behind),
         };
         let reply = match &step.call {
-            AnyCall::Open([f, c, k, n, own]) => {
+            AnyCall::Open([f, c, k, n, own], leaders) => {
                 let settings = Settings { f: *f, c: *c, k: *k, n: *n };
-                raw::open(lent.counters, lent.memory, lent.store, settings, *own)
+                let leaders = self.leaders.hold(leaders, behind);
+                raw::open(lent.counters, lent.memory, lent.store, settings, *own, leaders)
             }
             AnyCall::Call(Call::Record(bytes)) => lent.record(self.record.hold(bytes, behind)),
             AnyCall::Call(Call::Timer(view)) => lent.timer(*view),

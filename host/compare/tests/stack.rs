@@ -40,7 +40,7 @@ fn depths(rooms: Rooms, steps: impl IntoIterator<Item = Step>) -> [usize; 4] {
     let mut deepest = [0; 4];
     for step in steps {
         let kind = match step.call {
-            AnyCall::Open(_) => 0,
+            AnyCall::Open(..) => 0,
             AnyCall::Call(Call::Record(_)) => 1,
             AnyCall::Call(Call::Timer(_)) => 2,
             AnyCall::Call(Call::Propose(_)) => 3,
@@ -96,10 +96,12 @@ fn chain_and_one_apart(blocks: u64) -> Vec<u64> {
     (0..blocks - 2).chain([0, blocks - 2]).collect()
 }
 
-/// A replica that was opened with these numbers and holds blocks 1, 2, 3 and on with these parents; 0 is genesis.
+/// A replica that was opened with these numbers and the list 0 to n−1, and holds blocks 1, 2, 3 and on with these
+/// parents; 0 is genesis.
 fn with_blocks(opening: [u64; 5], parents: &[u64]) -> Expected {
     let mut oracle = Expected::new(Rooms::empty(), Faults::NONE);
-    assert_eq!(oracle.step(&step(AnyCall::Open(opening))), Ok(0));
+    let in_turn = (0..opening[3] as u8).collect();
+    assert_eq!(oracle.step(&step(AnyCall::Open(opening, in_turn))), Ok(0));
     let mut heights = vec![0];
     for (number, &parent) in (1..).zip(parents) {
         let height = heights[parent as usize] + 1;
@@ -115,8 +117,8 @@ fn with_blocks(opening: [u64; 5], parents: &[u64]) -> Expected {
 /// Each view of the window has three decided names, one by votes and two by commits, as `decided` says. The lock is so high
 /// that no certificate is formed.
 fn many_decided_names(parents: &[u64], decided: impl Fn(u64) -> [[u8; 32]; 3]) -> Rooms {
-    const VOTES: usize = 3_624;
-    const COMMITS: usize = 11_880;
+    const VOTES: usize = 3_688;
+    const COMMITS: usize = 11_944;
     const ROW: usize = 1_032;
     let mut rooms = with_blocks([0, 15, 1, 32, 1], parents).rooms;
     rooms.counters[..8].copy_from_slice(&5u64.to_le_bytes());
@@ -137,7 +139,7 @@ fn many_decided_names(parents: &[u64], decided: impl Fn(u64) -> [[u8; 32]; 3]) -
 
 /// The last vote, put into memory by hand, so that any accepted call releases.
 fn with_last_vote(mut rooms: Rooms, height: u64) -> Rooms {
-    const ROW: usize = 3_624 + 1_032; // of view 1
+    const ROW: usize = 3_688 + 1_032; // of view 1
     rooms.memory[ROW + 3] |= 1 << 7;
     rooms.memory[ROW + 8 + 32 * 31..][..32].copy_from_slice(&name(height));
     rooms

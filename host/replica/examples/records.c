@@ -35,6 +35,8 @@ static replica cluster[REPLICAS];
 static parcel *first;
 static parcel **last = &first;
 static const hydrangea_name block = {{7}};
+/* Replica 0 leads every other view. */
+static const uint8_t leaders[] = {0, 1, 0, 2, 0, 3, 0, 4, 0, 5};
 
 static void fail(const char *what) {
     fprintf(stderr, "%s\n", what);
@@ -80,7 +82,7 @@ static void open_replica(unsigned own) {
     one->store = region(HYDRANGEA_STORE * sizeof *one->store);
     one->output = region(HYDRANGEA_OUTPUT);
     hydrangea_reply reply = hydrangea_open(one->counters, one->memory, HYDRANGEA_MEMORY, one->store, HYDRANGEA_STORE,
-                                           1, 1, 0, REPLICAS, own);
+                                           1, 1, 0, REPLICAS, own, leaders, sizeof leaders);
     if (reply.refusal != 0) fail("an opening was refused");
     check_guards(one);
 }
@@ -122,7 +124,7 @@ static void route(unsigned own, const uint8_t *record, size_t length) {
     if (kind == RELEASE) {
         note_release(own, record);
     } else if (kind == CERTIFICATE) {
-        post((unsigned)(number(record + 8, 8) % REPLICAS), record, length);
+        post(leaders[number(record + 8, 8) % sizeof leaders], record, length); /* of the next view */
     } else {
         for (unsigned to = 0; to < REPLICAS; to++)
             if (to != own) post(to, record, length);

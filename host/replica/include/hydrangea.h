@@ -11,14 +11,14 @@
  * byte. An accepted one writes whole records to the front of the output and leaves the bytes after them.
  *
  * What one chain asks of the host:
- * - each number is opened once, in all replicas with the same settings;
+ * - each number is opened once, all honest replicas of a cluster with the same settings and the same leader list;
  * - a record is handed in only after its signatures were checked, those of its inner timeouts and of each
  *   certificate's signers too;
  * - a name has one parent and one height: it is a hash over both;
  * - counters, memory and store are saved before any output byte of the call is sent, and a replica resumes only from
  *   what its last finished call left;
- * - of the output, kind 6 goes to the leader of the next view, kind 9 (a release) to the host itself, all else to
- *   every other replica.
+ * - of the output, kind 6 goes to the leader of the next view by the list (for one of view w, of view w + 1), kind 9
+ *   (a release) to the host itself, all else to every other replica.
  *
  * On the deepest inputs known a call takes under 240 KiB of stack.
  */
@@ -33,9 +33,12 @@ extern "C" {
 #endif
 
 /* The least lengths: memory in bytes, store in blocks, output in bytes. */
-#define HYDRANGEA_MEMORY 34504
+#define HYDRANGEA_MEMORY 34568
 #define HYDRANGEA_STORE 128
 #define HYDRANGEA_OUTPUT 32768
+
+/* The most entries of a leader list. */
+#define HYDRANGEA_LEADERS 64
 
 /* A block's name. All zero is genesis. */
 typedef struct hydrangea_name {
@@ -79,12 +82,15 @@ typedef struct hydrangea_reply {
 } hydrangea_reply;
 
 /*
- * Opens the replica `own` of a cluster of n = 3f + 2c + k + 1 in what is lent, whatever stood there. Refusals 1
- * (settings) and 2 (a region is too short). The store's entries are left as they are; nothing is written to send.
+ * Opens the replica `own` of a cluster of n = 3f + 2c + k + 1 in what is lent, whatever stood there. The leader list
+ * has 1 to 64 replica numbers, one byte each; the leader of view v is entry (v - 1) mod its length. A replica may stand
+ * in it several times or not at all. The list is kept in the memory, where no call changes it. Refusals 1 (settings,
+ * own number, or the list is empty, longer or has an entry of n or above) and 2 (a region is too short). The store's
+ * entries are left as they are; nothing is written to send.
  */
 hydrangea_reply hydrangea_open(hydrangea_counters *counters, uint8_t *memory, size_t memory_length,
                                const hydrangea_block *store, size_t store_length, uint64_t f, uint64_t c, uint64_t k,
-                               uint64_t n, uint64_t own);
+                               uint64_t n, uint64_t own, const uint8_t *leaders, size_t leaders_length);
 
 /* Takes a record of any bytes, with its signatures checked. Refusals 2 to 14. */
 hydrangea_reply hydrangea_record(hydrangea_counters *counters, uint8_t *memory, size_t memory_length,
@@ -98,7 +104,8 @@ hydrangea_reply hydrangea_timer(hydrangea_counters *counters, uint8_t *memory, s
 
 /*
  * Proposes a block of this name in the current view, on the safe block of the certificate by which the view was
- * entered. Refusals 2, 15 (not this replica's turn), 5, 11, 12, 13 and 14.
+ * entered. Refusals 2, 15 (not this replica's turn: by the list another leads, it timed out or voted in the view, or
+ * the view is 2^62), 5, 11, 12, 13 and 14.
  */
 hydrangea_reply hydrangea_propose(hydrangea_counters *counters, uint8_t *memory, size_t memory_length,
                                   hydrangea_block *store, size_t store_length, uint8_t *output, size_t output_length,

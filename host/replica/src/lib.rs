@@ -5,8 +5,9 @@
 //! behind it say, on any input and any content of the regions. This crate only lends the regions and reads what comes
 //! back; [`raw`] has the calls as they are.
 //!
-//! What the proof of one chain asks of a host stands in `docs/INTERFACE.md`: signatures are checked before a record comes in,
-//! the state is saved before any output byte is sent, a replica resumes only from its last finished call.
+//! What the proof of one chain asks of a host stands in `docs/INTERFACE.md`: all replicas of a cluster are opened with the same
+//! settings and the same leader list, signatures are checked before a record comes in, the state is saved before any output
+//! byte is sent, a replica resumes only from its last finished call.
 //!
 //! Four replicas of six vote for the block that the first one proposes, and commit to it:
 //!
@@ -14,7 +15,8 @@
 //! use replica::{Content, Height, Name, Receiver, Refusal, Replica, Settings};
 //!
 //! let settings = Settings { f: 1, c: 1, k: 0, n: 6 };
-//! let mut cluster = (0..4).map(|own| Replica::open(settings, own)).collect::<Result<Vec<_>, Refusal>>()?;
+//! let leaders = settings.in_turn();
+//! let mut cluster = (0..4).map(|own| Replica::open(settings, own, &leaders)).collect::<Result<Vec<_>, Refusal>>()?;
 //! let mut waiting = Vec::new(); // records on their way: to whom, and the bytes
 //! let mut released = Vec::new();
 //!

@@ -4,9 +4,11 @@
 use crate::types::{Block, Counters, Name, Settings};
 
 /// The least lengths that calls take: memory in bytes, store in blocks, output in bytes.
-pub const MEMORY: usize = 34_504;
+pub const MEMORY: usize = 34_568;
 pub const STORE: usize = 128;
 pub const OUTPUT: usize = 32_768;
+/// The most entries of a leader list.
+pub const LEADERS: usize = 64;
 
 /// What a call answers: refusal 0 is acceptance with the number of bytes written.
 #[derive(Clone, Copy, Debug, PartialEq, Eq)]
@@ -37,6 +39,8 @@ extern "C" {
         k: u64,
         n: u64,
         own: u64,
+        leaders: *const u8,
+        leaders_length: usize,
     ) -> Reply;
 
     fn hydrangea_record(
@@ -74,12 +78,23 @@ extern "C" {
     ) -> Reply;
 }
 
-/// Opens a replica in what is lent. The store's entries are left as they are.
-pub fn open(counters: &mut Counters, memory: &mut [u8], store: &[Block], settings: Settings, own: u64) -> Reply {
+/// Opens a replica in what is lent, with a leader list of any bytes. The store's entries are left as they are.
+pub fn open(
+    counters: &mut Counters,
+    memory: &mut [u8],
+    store: &[Block],
+    settings: Settings,
+    own: u64,
+    leaders: &[u8],
+) -> Reply {
     let Settings { f, c, k, n } = settings;
     let (memory, memory_length) = (memory.as_mut_ptr(), memory.len());
+    let (store, store_length) = (store.as_ptr(), store.len());
+    let (leaders, leaders_length) = (leaders.as_ptr(), leaders.len());
     // SAFETY: each pointer is valid for its length, and a call reads and writes nothing else.
-    unsafe { hydrangea_open(counters, memory, memory_length, store.as_ptr(), store.len(), f, c, k, n, own) }
+    unsafe {
+        hydrangea_open(counters, memory, memory_length, store, store_length, f, c, k, n, own, leaders, leaders_length)
+    }
 }
 
 /// A call on all that is lent.

@@ -26,7 +26,7 @@ pub enum Content<'a> {
 pub enum Receiver {
     /// To every other replica.
     Others,
-    /// To this replica, the leader of the next view; it may be oneself.
+    /// To this replica, the leader of the next view by the list; it may be oneself.
     Leader(u64),
     /// Nowhere: it tells the host what was released.
     Host,
@@ -90,16 +90,23 @@ impl<'a> Record<'a> {
         Some((Record { bytes, content: Content::read(bytes)? }, rest))
     }
 
-    /// To whom it goes, in a cluster of n.
-    pub(crate) fn receiver(&self, n: u64) -> Receiver {
+    /// To whom it goes, in a cluster with this leader list.
+    pub(crate) fn receiver(&self, leaders: &[u8]) -> Receiver {
         match self.content {
             Content::TimeoutCertificate(certificate) => {
-                Receiver::Leader(certificate.view.0.checked_rem(n).unwrap_or(0))
+                let next = leader_after(leaders, certificate.view);
+                Receiver::Leader(next.unwrap_or_default().into())
             }
             Content::Release(_) => Receiver::Host,
             _ => Receiver::Others,
         }
     }
+}
+
+/// Who leads the view after this one: entry `view` mod the list's length.
+pub(crate) fn leader_after(leaders: &[u8], view: View) -> Option<u16> {
+    let entry = view.0.checked_rem(leaders.len() as u64)?;
+    leaders.get(entry as usize).copied().map(u16::from)
 }
 
 impl<'a> Content<'a> {

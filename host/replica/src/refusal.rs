@@ -65,12 +65,15 @@ impl Refusal {
     /// 01's condition in short.
     pub fn meaning(self) -> &'static str {
         match self {
-            Refusal::Settings => "settings break a rule, or the own number is n or above",
+            Refusal::Settings => {
+                "settings break a rule, the own number is n or above, or the leader list is empty, longer than 64 or has \
+                 an entry of n or above"
+            }
             Refusal::Regions => "a region is too short, or memory or store break a rule",
             Refusal::Length => "a length is wrong, of the slice, its length field, its kind or an inner record",
             Refusal::Kind => "a kind is unknown or out of place",
             Refusal::Content => "padding, a name, a high vote, a signer set or an inner record isn't as it must be",
-            Refusal::Party => "the sender is outside of the cluster, oneself, or not the leader of the view",
+            Refusal::Party => "the sender is outside of the cluster, oneself, or not the view's leader by the list",
             Refusal::ViewBelow => "the view is below the window or the current view, or 0",
             Refusal::ViewAbove => "the view is above the window, the current view or the limit",
             Refusal::Certificate => "too few signers or timeouts, or a certificate that isn't good",

@@ -3,7 +3,7 @@
 use std::fmt;
 
 use crate::raw::{self, Lent, Reply};
-use crate::record::{u16_at, Progress, Receiver, Record};
+use crate::record::{leader_after, u16_at, Progress, Receiver, Record};
 use crate::refusal::Refusal;
 use crate::types::{Block, Certificate, Counters, Name, Settings, View, Vote};
 
@@ -14,7 +14,7 @@ use crate::types::{Block, Certificate, Counters, Name, Settings, View, Vote};
 ///
 /// ```compile_fail,E0599
 /// # use replica::{Replica, Settings};
-/// # let replica = Replica::open(Settings { f: 1, c: 1, k: 0, n: 6 }, 0).unwrap();
+/// # let replica = Replica::open(Settings { f: 1, c: 1, k: 0, n: 6 }, 0, &[0, 1, 2, 3, 4, 5]).unwrap();
 /// let second = replica.clone();
 /// ```
 pub struct Replica {
@@ -28,19 +28,34 @@ impl Replica {
     /// How many bytes [`Replica::save`] gives.
     pub const SAVED: usize = size_of::<Counters>() + raw::MEMORY + raw::STORE * size_of::<Block>();
 
-    /// Opens the replica `own` of a cluster. Each number is opened once, all with the same settings.
+    /// Opens the replica `own` of a cluster. Each number is opened once, all with the same settings and the same leader list:
+    /// 1 to 64 replica numbers, and the leader of view v is entry (v − 1) mod its length. A replica may stand in it several
+    /// times or not at all; [`Settings::in_turn`] has each once.
     ///
     /// ```
-    /// use replica::{Refusal, Replica, Settings};
+    /// use replica::{Refusal, Replica, Settings, View};
     ///
     /// let settings = Settings { f: 1, c: 1, k: 0, n: 6 };
-    /// assert!(Replica::open(settings, 5).is_ok());
-    /// assert_eq!(Replica::open(settings, 6).err(), Some(Refusal::Settings));
-    /// assert_eq!(Replica::open(Settings { n: 7, ..settings }, 0).err(), Some(Refusal::Settings));
+    /// let leaders = settings.in_turn();
+    /// assert!(Replica::open(settings, 5, &leaders).is_ok());
+    /// assert_eq!(Replica::open(settings, 6, &leaders).err(), Some(Refusal::Settings));
+    /// assert_eq!(Replica::open(Settings { n: 7, ..settings }, 0, &leaders).err(), Some(Refusal::Settings));
     /// ```
-    pub fn open(settings: Settings, own: u64) -> Result<Replica, Refusal> {
+    ///
+    /// Replica 0 leads every other view:
+    ///
+    /// ```
+    /// # use replica::{Refusal, Replica, Settings, View};
+    /// # let settings = Settings { f: 1, c: 1, k: 0, n: 6 };
+    /// let replica = Replica::open(settings, 5, &[0, 1, 0, 2])?;
+    /// assert_eq!([1, 2, 3, 4, 5].map(|view| replica.leader(View(view))), [0, 1, 0, 2, 0].map(Some));
+    /// assert_eq!(Replica::open(settings, 5, &[]).err(), Some(Refusal::Settings));
+    /// assert_eq!(Replica::open(settings, 5, &[0, 6]).err(), Some(Refusal::Settings));
+    /// # Ok::<(), Refusal>(())
+    /// ```
+    pub fn open(settings: Settings, own: u64, leaders: &[u8]) -> Result<Replica, Refusal> {
         let mut replica = Replica::empty();
-        accept(raw::open(&mut replica.counters, &mut replica.memory, &replica.store, settings, own))?;
+        accept(raw::open(&mut replica.counters, &mut replica.memory, &replica.store, settings, own, leaders))?;
         Ok(replica)
     }
 
@@ -58,7 +73,7 @@ impl Replica {
     ///
     /// ```
     /// # use replica::{Refusal, Replica, Settings};
-    /// # let mut replica = Replica::open(Settings { f: 1, c: 1, k: 0, n: 6 }, 0).unwrap();
+    /// # let mut replica = Replica::open(Settings { f: 1, c: 1, k: 0, n: 6 }, 0, &[0, 1, 2, 3, 4, 5]).unwrap();
     /// assert_eq!(replica.record(b"no record").err(), Some(Refusal::Length));
     /// ```
     pub fn record(&mut self, record: &[u8]) -> Result<Accepted<'_>, Refusal> {
@@ -70,7 +85,7 @@ impl Replica {
     ///
     /// ```
     /// # use replica::{Refusal, Replica, Settings, View};
-    /// # let mut replica = Replica::open(Settings { f: 1, c: 1, k: 0, n: 6 }, 0).unwrap();
+    /// # let mut replica = Replica::open(Settings { f: 1, c: 1, k: 0, n: 6 }, 0, &[0, 1, 2, 3, 4, 5]).unwrap();
     /// assert!(replica.timer(View(1)).is_ok());
     /// assert_eq!(replica.timed(), View(1));
     /// assert_eq!(replica.timer(View(1)).err(), Some(Refusal::Repeated));
@@ -80,7 +95,7 @@ impl Replica {
     ///
     /// ```compile_fail,E0308
     /// # use replica::{Height, Refusal, Replica, Settings, View};
-    /// # let mut replica = Replica::open(Settings { f: 1, c: 1, k: 0, n: 6 }, 0).unwrap();
+    /// # let mut replica = Replica::open(Settings { f: 1, c: 1, k: 0, n: 6 }, 0, &[0, 1, 2, 3, 4, 5]).unwrap();
     /// assert!(replica.timer(Height(1)).is_ok());
     /// ```
     pub fn timer(&mut self, view: View) -> Result<Accepted<'_>, Refusal> {
@@ -93,7 +108,7 @@ impl Replica {
     ///
     /// ```
     /// # use replica::{Content, Name, Replica, Settings};
-    /// # let mut replica = Replica::open(Settings { f: 1, c: 1, k: 0, n: 6 }, 0).unwrap();
+    /// # let mut replica = Replica::open(Settings { f: 1, c: 1, k: 0, n: 6 }, 0, &[0, 1, 2, 3, 4, 5]).unwrap();
     /// let output = replica.propose(Name { bytes: [1; 32] })?.unsaved();
     /// let written: Vec<Content> = output.records().map(|record| record.content).collect();
     /// assert!(matches!(written[..], [Content::Proposal(_), Content::Vote(_)]));
@@ -163,12 +178,12 @@ impl Replica {
     ///
     /// ```
     /// # use replica::{Certificate, Progress, Replica, Settings};
-    /// # let replica = Replica::open(Settings { f: 1, c: 1, k: 0, n: 6 }, 0).unwrap();
+    /// # let replica = Replica::open(Settings { f: 1, c: 1, k: 0, n: 6 }, 0, &[0, 1, 2, 3, 4, 5]).unwrap();
     /// assert_eq!(replica.entry(), Some(Progress::Block(Certificate::default())));
     /// ```
     pub fn entry(&self) -> Option<Progress<'_>> {
         let length = usize::from(self.number_at(10));
-        Progress::read(self.memory.get(16..)?.get(..length)?)
+        Progress::read(self.memory.get(80..)?.get(..length)?)
     }
 
     /// The cluster's settings.
@@ -182,6 +197,24 @@ impl Replica {
         self.number_at(6)
     }
 
+    /// The leader list that it was opened with.
+    pub fn leaders(&self) -> &[u8] {
+        let length = usize::from(self.number_at(12));
+        self.memory.get(16..).and_then(|place| place.get(..length)).unwrap_or_default()
+    }
+
+    /// Who leads a view; nobody leads view 0.
+    ///
+    /// ```
+    /// # use replica::{Replica, Settings, View};
+    /// # let replica = Replica::open(Settings { f: 1, c: 1, k: 0, n: 6 }, 0, &[0, 1, 2, 3, 4, 5]).unwrap();
+    /// assert_eq!(replica.leader(replica.view()), Some(replica.own()));
+    /// assert_eq!(replica.leader(View(0)), None);
+    /// ```
+    pub fn leader(&self, view: View) -> Option<u16> {
+        leader_after(self.leaders(), View(view.0.checked_sub(1)?))
+    }
+
     /// A number in the head of the memory.
     fn number_at(&self, at: usize) -> u16 {
         u16_at(&self.memory, at).unwrap_or_default()
@@ -191,7 +224,7 @@ impl Replica {
     ///
     /// ```
     /// # use replica::{Name, Replica, Settings};
-    /// # let mut replica = Replica::open(Settings { f: 1, c: 1, k: 0, n: 6 }, 0)?;
+    /// # let mut replica = Replica::open(Settings { f: 1, c: 1, k: 0, n: 6 }, 0, &[0, 1, 2, 3, 4, 5])?;
     /// # let name = Name { bytes: [1; 32] };
     /// let saved = replica.propose(name)?.replica().save();
     /// let resumed = Replica::restore(&saved)?;
@@ -240,6 +273,7 @@ impl fmt::Debug for Replica {
         f.debug_struct("Replica")
             .field("settings", &self.settings())
             .field("own", &self.own())
+            .field("leaders", &self.leaders())
             .field("counters", &self.counters)
             .field("held", &self.held().len())
             .finish_non_exhaustive()
@@ -259,7 +293,7 @@ fn accept(reply: Reply) -> Result<usize, Refusal> {
 ///
 /// ```
 /// # use replica::{Refusal, Replica, Settings, View};
-/// # let mut replica = Replica::open(Settings { f: 1, c: 1, k: 0, n: 6 }, 0).unwrap();
+/// # let mut replica = Replica::open(Settings { f: 1, c: 1, k: 0, n: 6 }, 0, &[0, 1, 2, 3, 4, 5]).unwrap();
 /// let mut disk = Vec::new();
 /// let written = replica.timer(View(1))?.saved(|state| std::io::Write::write_all(&mut disk, &state.save()));
 /// assert_eq!(written.map(|output| output.bytes().len()).ok(), Some(112));
@@ -287,7 +321,7 @@ impl<'a> Accepted<'a> {
 
     /// The output, for a host that never resumes this replica.
     pub fn unsaved(self) -> Output<'a> {
-        Output { bytes: self.bytes, n: self.replica.settings().n }
+        Output { bytes: self.bytes, leaders: self.replica.leaders() }
     }
 }
 
@@ -295,7 +329,7 @@ impl<'a> Accepted<'a> {
 ///
 /// ```compile_fail,E0499
 /// # use replica::{Replica, Settings, View};
-/// # let mut replica = Replica::open(Settings { f: 1, c: 1, k: 0, n: 6 }, 0).unwrap();
+/// # let mut replica = Replica::open(Settings { f: 1, c: 1, k: 0, n: 6 }, 0, &[0, 1, 2, 3, 4, 5]).unwrap();
 /// let output = replica.timer(View(1)).unwrap().unsaved();
 /// let _ = replica.timer(View(2));
 /// println!("{}", output.bytes().len());
@@ -304,7 +338,7 @@ impl<'a> Accepted<'a> {
 #[must_use = "what was written is to be sent"]
 pub struct Output<'a> {
     bytes: &'a [u8],
-    n: u64,
+    leaders: &'a [u8],
 }
 
 impl<'a> Output<'a> {
@@ -325,7 +359,7 @@ impl<'a> Output<'a> {
 
     /// Record by record, with the one whom it goes to.
     pub fn sendings(&self) -> impl Iterator<Item = (Receiver, Record<'a>)> {
-        let n = self.n;
-        self.records().map(move |record| (record.receiver(n), record))
+        let leaders = self.leaders;
+        self.records().map(move |record| (record.receiver(leaders), record))
     }
 }

@@ -10,6 +10,21 @@ pub struct Settings {
     pub n: u64,
 }
 
+impl Settings {
+    /// The leader list 0 to n−1, by which every replica leads in its turn.
+    ///
+    /// ```
+    /// use replica::{Replica, Settings};
+    ///
+    /// let settings = Settings { f: 1, c: 1, k: 0, n: 6 };
+    /// assert_eq!(settings.in_turn(), [0, 1, 2, 3, 4, 5]);
+    /// assert!(Replica::open(settings, 0, &settings.in_turn()).is_ok());
+    /// ```
+    pub fn in_turn(self) -> Vec<u8> {
+        (0..=u8::MAX).take_while(|&number| u64::from(number) < self.n).collect()
+    }
+}
+
 /// A view number.
 #[derive(Clone, Copy, Debug, Default, PartialEq, Eq, PartialOrd, Ord, Hash)]
 #[repr(transparent)]

@@ -97,6 +97,7 @@ fn the_header_has_the_layout() {
         ("HYDRANGEA_MEMORY", raw::MEMORY),
         ("HYDRANGEA_STORE", raw::STORE),
         ("HYDRANGEA_OUTPUT", raw::OUTPUT),
+        ("HYDRANGEA_LEADERS", raw::LEADERS),
         ("offsetof(hydrangea_block, name)", offset_of!(Block, name)),
         ("offsetof(hydrangea_block, parent)", offset_of!(Block, parent)),
         ("offsetof(hydrangea_block, height)", offset_of!(Block, height)),

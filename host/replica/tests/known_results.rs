@@ -6,19 +6,43 @@ use replica::{Name, Refusal, Replica, Settings, View};
 fn settings_are_taken_or_refused() {
     for (f, c, k, n) in [(1, 1, 0, 6), (2, 2, 2, 13), (7, 5, 0, 32), (0, 4, 0, 9)] {
         let settings = Settings { f, c, k, n };
-        let last = Replica::open(settings, n - 1).expect("settings that are taken");
-        assert_eq!((last.settings(), u64::from(last.own())), (settings, n - 1));
-        assert_eq!(Replica::open(settings, n).err(), Some(Refusal::Settings));
-        assert_eq!(Replica::open(Settings { n: n + 1, ..settings }, 0).err(), Some(Refusal::Settings));
+        let leaders = settings.in_turn();
+        let last = Replica::open(settings, n - 1, &leaders).expect("settings that are taken");
+        assert_eq!((last.settings(), u64::from(last.own()), last.leaders()), (settings, n - 1, &leaders[..]));
+        assert_eq!(Replica::open(settings, n, &leaders).err(), Some(Refusal::Settings));
+        assert_eq!(Replica::open(Settings { n: n + 1, ..settings }, 0, &leaders).err(), Some(Refusal::Settings));
     }
     for (f, c, k, n) in [(2, 0, 1, 8), (8, 4, 0, 33), (0, 0, 0, 1), (u64::MAX, 1, 0, 6), (1, 1, u64::MAX, 6)] {
-        assert_eq!(Replica::open(Settings { f, c, k, n }, 0).err(), Some(Refusal::Settings), "{f} {c} {k} {n}");
+        assert_eq!(Replica::open(Settings { f, c, k, n }, 0, &[0]).err(), Some(Refusal::Settings), "{f} {c} {k} {n}");
+    }
+}
+
+/// 02, 2.1: "An entry of n or more, or an empty or longer list, is refused by 1."
+#[test]
+fn leader_lists_are_taken_or_refused() {
+    let settings = Settings { f: 1, c: 1, k: 0, n: 6 };
+    for list in [&[5][..], &[1, 0, 1, 1, 3], &[2; 64]] {
+        assert_eq!(Replica::open(settings, 0, list).expect("a list that is taken").leaders(), list);
+    }
+    for list in [&[][..], &[0, 6], &[255], &[2; 65], &[2; 320]] {
+        assert_eq!(Replica::open(settings, 0, list).err(), Some(Refusal::Settings), "{list:?}");
+    }
+}
+
+/// "the leader of view v is entry (v−1) mod the list's length"
+#[test]
+fn the_lists_leader_proposes() {
+    let settings = Settings { f: 1, c: 1, k: 0, n: 6 };
+    for own in 0..6 {
+        let mut replica = Replica::open(settings, own, &[3, 0]).expect("a list that is taken");
+        assert_eq!(replica.propose(Name { bytes: [1; 32] }).is_ok(), own == 3);
     }
 }
 
 #[test]
 fn the_listing() {
-    let mut replica = Replica::open(Settings { f: 1, c: 1, k: 0, n: 6 }, 1).expect("settings that are taken");
+    let settings = Settings { f: 1, c: 1, k: 0, n: 6 };
+    let mut replica = Replica::open(settings, 1, &settings.in_turn()).expect("settings that are taken");
     let mut answers = Vec::new();
     for view in [2, 1, 1] {
         answers.push(replica.timer(View(view)).err().map_or(0, Refusal::number));

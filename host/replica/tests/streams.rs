@@ -1,12 +1,13 @@
 //! Streams through the safe calls: a replica that is saved and restored after every call goes on to the same bytes, and
 //! each record that is written says what the oracle reads in it.
 
-use oracle::wire;
+use oracle::{wire, Leaders};
 use replica::{Accepted, Content, Name, Progress, Receiver, Record, Refusal, Replica, Settings, Timeout, View};
 use streams::{play, Call, Coverage, Opening};
 
-fn open(Opening { f, c, k, n, own }: Opening) -> Replica {
-    Replica::open(Settings { f, c, k, n }, own).expect("settings that are taken")
+fn open(opening: Opening) -> Replica {
+    let [f, c, k, n, own] = opening.numbers();
+    Replica::open(Settings { f, c, k, n }, own, opening.leaders.list()).expect("settings and a list that are taken")
 }
 
 fn make<'a>(replica: &'a mut Replica, call: &Call) -> Result<Accepted<'a>, Refusal> {
@@ -25,7 +26,7 @@ fn answer(replica: &mut Replica, call: &Call) -> Result<Vec<u8>, Refusal> {
 #[test]
 fn a_restored_replica_goes_on_to_the_same_bytes() {
     for seed in 0..6 {
-        let opening = Opening::seeded(seed);
+        let opening = Opening::seeded_led(seed);
         let (mut steady, mut saved) = (open(opening), open(opening).save());
         for call in play(opening, seed, 500, &mut Coverage::default()).calls {
             let mut resumed = Replica::restore(&saved).expect("what a call left");
@@ -46,13 +47,15 @@ fn damaged_saves_are_refused() {
         assert_eq!(Replica::restore(bytes).err(), Some(Refusal::Regions));
     }
     const MEMORY: usize = 224;
-    let rules: [(usize, &[u8]); 6] = [
-        (0, &[0; 8]),               // the view
-        (7, &[0x80]),               // the same, above 2^62
-        (MEMORY, &[0xFF, 0xFF]),    // f
-        (MEMORY + 6, &[32, 0]),     // own number
-        (MEMORY + 8, &[129, 0]),    // blocks held
-        (MEMORY + 16 + 4, &[5, 0]), // the entry certificate's kind
+    let rules: [(usize, &[u8]); 8] = [
+        (0, &[0; 8]),            // the view
+        (7, &[0x80]),            // the same, above 2^62
+        (MEMORY, &[0xFF, 0xFF]), // f
+        (MEMORY + 6, &[32, 0]),  // own number
+        (MEMORY + 8, &[129, 0]), // blocks held
+        (MEMORY + 12, &[0, 0]),  // entries of the leader list
+        (MEMORY + 12, &[65, 0]),
+        (MEMORY + 80 + 4, &[5, 0]), // the entry certificate's kind
     ];
     for (at, bytes) in rules {
         let mut damaged = saved.clone();
@@ -77,8 +80,9 @@ fn state_is_saved_before_output_is_had() {
 fn records_say_what_their_bytes_say() {
     let mut kinds = [0; 10];
     for seed in 0..40 {
-        let opening = Opening::seeded(seed);
+        let opening = Opening::seeded_led(seed);
         let mut replica = open(opening);
+        assert_eq!(replica.leaders(), opening.leaders.list());
         for call in play(opening, seed, 400, &mut Coverage::default()).calls {
             let Ok(accepted) = make(&mut replica, &call) else { continue };
             let output = accepted.unsaved();
@@ -86,7 +90,7 @@ fn records_say_what_their_bytes_say() {
             for (receiver, record) in output.sendings() {
                 kinds[usize::from(wire::kind_of(record.bytes))] += 1;
                 write(&mut again, opening.own as u16, &record);
-                assert_eq!(receiver, expected_receiver(&record, opening.n));
+                assert_eq!(receiver, expected_receiver(&record, &opening.leaders));
             }
             assert_eq!(again, output.bytes());
         }
@@ -94,9 +98,9 @@ fn records_say_what_their_bytes_say() {
     assert!([1, 2, 3, 5, 6, 7, 9].iter().all(|&kind| kinds[kind] > 20), "{kinds:?}");
 }
 
-fn expected_receiver(record: &Record, n: u64) -> Receiver {
+fn expected_receiver(record: &Record, leaders: &Leaders) -> Receiver {
     match wire::kind_of(record.bytes) {
-        6 => Receiver::Leader(wire::u64_at(record.bytes, 8) % n),
+        6 => Receiver::Leader(leaders.leader(oracle::View(wire::u64_at(record.bytes, 8) + 1)).into()),
         9 => Receiver::Host,
         _ => Receiver::Others,
     }
