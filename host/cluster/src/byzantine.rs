@@ -18,7 +18,7 @@ use crate::card::{self, Signature, Signatures, Signer};
 use crate::contents::{Blocks, Contents};
 use crate::frame::Frame;
 use crate::net::{Event, Net};
-use crate::{entry_record, key_file, N, SETTINGS};
+use crate::{entry_record, key_file, N};
 
 const TICK: Duration = Duration::from_millis(4);
 /// Frames of others that it remembers.
@@ -48,7 +48,7 @@ pub fn run(folder: &Path, own: u16, seed: u64) -> io::Result<()> {
         net: Net::start(folder, N, &signer, None)?,
         own,
         protocol: crate::protocol(),
-        replica: Replica::open(SETTINGS, u64::from(own)).map_err(io::Error::other)?,
+        replica: crate::open(own)?,
         signatures: Signatures::new(signer, u32::from(N), []),
         blocks: Blocks::default(),
         recent: Vec::new(),
@@ -238,7 +238,7 @@ impl Liar {
     /// In its view: two blocks, each shown to some, and votes for both; a block with a wrong parent; or nothing.
     fn lead(&mut self) {
         let view = View(self.replica.view().0);
-        if self.protocol.settings.leader(view) != self.own || self.led >= view.0 {
+        if self.replica.leader(self.replica.view()) != Some(self.own) || self.led >= view.0 {
             return;
         }
         self.led = view.0;

@@ -21,7 +21,7 @@ use crate::contents::{Blocks, Contents};
 use crate::frame::Frame;
 use crate::net::{Event, Net};
 use crate::state::{self, Counts, Release, Saved, Sending};
-use crate::{entry_record, N, SETTINGS};
+use crate::{entry_record, N};
 
 /// The loop looks at the clock this often at least.
 const TICK: Duration = Duration::from_millis(3);
@@ -331,7 +331,7 @@ impl Host {
 
     fn is_turn(&self) -> bool {
         let view = self.replica.view();
-        self.protocol.settings.leader(View(view.0)) == self.options.own
+        self.replica.leader(view) == Some(self.options.own)
             && self.replica.timed() < view
             && self.replica.high_vote().is_none_or(|vote| vote.view < view)
             && self.clock.may_propose()
@@ -526,7 +526,7 @@ fn owned((receiver, record): (Receiver, replica::Record<'_>)) -> Written {
 
 /// A replica that was opened and has done nothing.
 pub fn opened(own: u16) -> io::Result<Saved> {
-    let replica = Replica::open(SETTINGS, u64::from(own)).map_err(io::Error::other)?;
+    let replica = crate::open(own)?;
     Ok(Saved {
         counts: Counts::default(),
         view: replica.view().0,

@@ -22,14 +22,20 @@ pub mod rows;
 pub mod state;
 pub mod supervisor;
 
+use std::io;
 use std::path::{Path, PathBuf};
 
-use oracle::{Faults, Protocol};
+use oracle::{regions, Faults, Protocol};
 use replica::{raw, Counters, Replica, Settings};
 
 pub const SETTINGS: Settings = Settings { f: 1, c: 1, k: 0, n: 6 };
 /// The number of replicas.
 pub const N: u16 = SETTINGS.n as u16;
+
+/// An opened replica of the cluster: each leads in its turn.
+pub fn open(own: u16) -> io::Result<Replica> {
+    Replica::open(SETTINGS, own.into(), &SETTINGS.in_turn()).map_err(io::Error::other)
+}
 
 /// The quorums of the cluster.
 pub fn protocol() -> Protocol {
@@ -41,8 +47,8 @@ pub fn protocol() -> Protocol {
 pub fn entry_record(replica: &Replica) -> Vec<u8> {
     let saved = replica.save();
     let memory = &saved[size_of::<Counters>()..][..raw::MEMORY];
-    let length = usize::from(oracle::wire::u16_at(memory, 10));
-    memory[16..][..length].to_vec()
+    let length = usize::from(oracle::wire::u16_at(memory, regions::ENTRY_LENGTH));
+    memory[regions::ENTRY..][..length].to_vec()
 }
 
 /// Where a process that stands still says so.

@@ -4,7 +4,7 @@
 use std::rc::Rc;
 
 use oracle::wire::{self, Timeouts};
-use oracle::{members, Block, Certificate, Height, Name, Protocol, Timeout, View, Vote};
+use oracle::{members, Block, Certificate, Height, Leaders, Name, Protocol, Timeout, View, Vote};
 
 use crate::ledger::{makers, Ledger};
 use crate::random::Random;
@@ -19,6 +19,7 @@ pub struct Lie {
 
 pub struct Adversary {
     protocol: Protocol,
+    leaders: Leaders,
     liars: u64,
     proposals: Vec<Planted>,
 }
@@ -34,8 +35,8 @@ struct Planted {
 const BACK: u64 = 4;
 
 impl Adversary {
-    pub fn new(protocol: Protocol, liars: u64) -> Adversary {
-        Adversary { protocol, liars, proposals: Vec::new() }
+    pub fn new(protocol: Protocol, leaders: Leaders, liars: u64) -> Adversary {
+        Adversary { protocol, leaders, liars, proposals: Vec::new() }
     }
 
     pub fn liars(&self) -> u64 {
@@ -234,7 +235,7 @@ impl Adversary {
 
     /// As leader of a view that it leads: a new proposal, or an old one to others.
     fn lead(&mut self, ledger: &Ledger, low: u64, high: u64, random: &mut Random) -> Option<Lie> {
-        let is_led = |view: &u64| self.liars >> self.protocol.settings.leader(View(*view)) & 1 == 1;
+        let is_led = |view: &u64| self.liars >> self.leaders.leader(View(*view)) & 1 == 1;
         let led: Vec<_> = (low..=high).filter(is_led).collect();
         let view = *random.pick(&led)?;
         let own: Vec<_> = self.planted(view).map(|planted| planted.record.clone()).collect();
@@ -249,7 +250,7 @@ impl Adversary {
 
     /// A new proposal of a view that it leads.
     pub fn propose(&mut self, ledger: &Ledger, view: u64, random: &mut Random) -> Option<Rc<[u8]>> {
-        let leader = self.protocol.settings.leader(View(view));
+        let leader = self.leaders.leader(View(view));
         let (progress, safe) = self.progress(ledger, leader, view - 1, random)?;
         let block = self.fresh_block(ledger, view, safe.name, random)?;
         let mut record = Vec::new();

@@ -4,11 +4,12 @@
 use std::rc::Rc;
 
 use oracle::wire::{self, kind};
-use oracle::{Name, Protocol};
+use oracle::{Leaders, Name, Protocol, View};
 
 use crate::chain::{Rows, Violation};
 use crate::core::Core;
 use crate::coverage::{Call, Coverage, Row, Tally};
+use crate::leaders;
 use crate::ledger::Ledger;
 
 /// 01: "The output region has 32,768 bytes; each call's output must be shown to fit."
@@ -23,8 +24,29 @@ pub enum Outcome {
     Barred,
 }
 
+/// What an opening is refused for.
+#[derive(Clone, Copy, Debug, PartialEq, Eq)]
+pub enum RefusedOpening {
+    Own,
+    Settings,
+    NoList,
+    LongList,
+    OutsideList,
+}
+
+impl RefusedOpening {
+    pub const ALL: [RefusedOpening; 5] = [
+        RefusedOpening::Own,
+        RefusedOpening::Settings,
+        RefusedOpening::NoList,
+        RefusedOpening::LongList,
+        RefusedOpening::OutsideList,
+    ];
+}
+
 pub struct Cluster<C: Core> {
     protocol: Protocol,
+    leaders: Leaders,
     options: C::Options,
     /// Honest replicas by number; none in the place of a Byzantine one.
     replicas: Vec<Option<C>>,
@@ -39,17 +61,20 @@ pub struct Cluster<C: Core> {
 }
 
 impl<C: Core> Cluster<C> {
-    /// Opens the honest replicas. `byzantine` is a set of at most f replicas.
-    pub fn open(options: C::Options, protocol: Protocol, byzantine: u64) -> Cluster<C> {
+    /// Opens the honest replicas, all with the same leader list. `byzantine` is a set of at most f replicas.
+    pub fn open(options: C::Options, protocol: Protocol, leaders: Leaders, byzantine: u64) -> Cluster<C> {
         let settings = protocol.settings;
         assert!(byzantine.count_ones() <= settings.f() && byzantine & !settings.everyone() == 0);
         let [f, c, k, n] = [settings.f(), settings.c(), settings.k(), settings.n()].map(u64::from);
         let open = |own: u64| {
             let honest = byzantine >> own & 1 == 0;
-            honest.then(|| C::open(options, f, c, k, n, own).expect("settings are good"))
+            honest.then(|| C::open(options, f, c, k, n, own, leaders.list()).expect("settings are good"))
         };
+        let mut coverage = Coverage::default();
+        leaders::note(&leaders, settings, settings.everyone() & !byzantine, &mut coverage);
         Cluster {
             protocol,
+            leaders,
             options,
             replicas: (0..n).map(open).collect(),
             tallies: vec![Tally::default(); n as usize],
@@ -57,7 +82,7 @@ impl<C: Core> Cluster<C> {
             rows: Rows::new(n as usize),
             output: Vec::with_capacity(OUTPUT),
             sent: Vec::new(),
-            coverage: Coverage::default(),
+            coverage,
             calls: 0,
         }
     }
@@ -68,6 +93,11 @@ impl<C: Core> Cluster<C> {
 
     pub fn n(&self) -> usize {
         self.replicas.len()
+    }
+
+    /// The leader of a view, by the list that all were opened with.
+    pub fn leader(&self, view: u64) -> usize {
+        self.leaders.leader(View(view)).into()
     }
 
     pub fn ledger(&self) -> &Ledger {
@@ -118,13 +148,22 @@ impl<C: Core> Cluster<C> {
         self.call(replica, Call::Propose(name), fresh)
     }
 
-    /// An opening that is refused: own number n, or another n than the settings give. Writes nothing.
-    pub fn refused_opening(&mut self, replica: usize, bad: bool) {
+    /// An opening that is refused: own number n, another n than the settings give, or a list that isn't taken. Writes
+    /// nothing.
+    pub fn refused_opening(&mut self, replica: usize, refused: RefusedOpening) {
         let settings = self.protocol.settings;
         let [f, c, k, n] = [settings.f(), settings.c(), settings.k(), settings.n()].map(u64::from);
-        let (n, own) = if bad { (n + 1, replica as u64) } else { (n, n) };
-        let reply = C::open(self.options, f, c, k, n, own);
-        self.coverage.opening(reply.err().unwrap_or(0));
+        let (own, list) = (replica as u64, self.leaders.list());
+        let reply = match refused {
+            RefusedOpening::Own => C::open(self.options, f, c, k, n, n, list),
+            RefusedOpening::Settings => C::open(self.options, f, c, k, n + 1, own, list),
+            RefusedOpening::NoList => C::open(self.options, f, c, k, n, own, &[]),
+            RefusedOpening::LongList => C::open(self.options, f, c, k, n, own, &[0; Leaders::MOST + 1]),
+            RefusedOpening::OutsideList => C::open(self.options, f, c, k, n, own, &[0, n as u8]),
+        };
+        let answer = reply.err().unwrap_or(0);
+        assert_eq!(answer, 1, "{refused:?}");
+        self.coverage.opening(answer);
         self.calls += 1;
     }
 

@@ -6,8 +6,8 @@ pub trait Core: Clone {
     /// What an opening is told beside the settings, such as deliberate errors.
     type Options: Copy;
 
-    /// Opens replica `own`, or gives the refusal's number.
-    fn open(options: Self::Options, f: u64, c: u64, k: u64, n: u64, own: u64) -> Result<Self, u16>;
+    /// Opens replica `own` with a leader list, or gives the refusal's number.
+    fn open(options: Self::Options, f: u64, c: u64, k: u64, n: u64, own: u64, leaders: &[u8]) -> Result<Self, u16>;
 
     /// Each call answers 0 or the refusal's number, and appends what it writes to `output`.
     fn record(&mut self, bytes: &[u8], output: &mut Vec<u8>) -> u16;
@@ -25,8 +25,9 @@ pub trait Core: Clone {
 impl Core for oracle::Replica {
     type Options = oracle::Faults;
 
-    fn open(faults: oracle::Faults, f: u64, c: u64, k: u64, n: u64, own: u64) -> Result<Self, u16> {
-        oracle::Replica::open_with(f, c, k, n, own, faults).map_err(oracle::Refusal::number)
+    fn open(faults: oracle::Faults, f: u64, c: u64, k: u64, n: u64, own: u64, leaders: &[u8]) -> Result<Self, u16> {
+        let opened = oracle::Replica::open(f, c, k, n, own, leaders);
+        opened.map(|replica| replica.with_faults(faults)).map_err(oracle::Refusal::number)
     }
 
     fn record(&mut self, bytes: &[u8], output: &mut Vec<u8>) -> u16 {
@@ -83,8 +84,8 @@ fn answer(reply: Result<replica::Accepted<'_>, replica::Refusal>, output: &mut V
 impl Core for Proved {
     type Options = ();
 
-    fn open((): (), f: u64, c: u64, k: u64, n: u64, own: u64) -> Result<Self, u16> {
-        let opened = replica::Replica::open(replica::Settings { f, c, k, n }, own);
+    fn open((): (), f: u64, c: u64, k: u64, n: u64, own: u64, leaders: &[u8]) -> Result<Self, u16> {
+        let opened = replica::Replica::open(replica::Settings { f, c, k, n }, own, leaders);
         opened.map(Proved).map_err(|refusal| refusal.number() as u16)
     }
 

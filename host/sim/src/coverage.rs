@@ -94,11 +94,15 @@ pub enum Row {
     Lies,
     Equivocations,
     Barred,
+    LedInTurn,
+    LedTwice,
+    NeverLeads,
+    LiarsLead,
     Runs,
 }
 
 impl Row {
-    const ALL: [(Row, &'static str); 26] = [
+    const ALL: [(Row, &'static str); 30] = [
         (Row::RuleA, "rule A: timeout echoed"),
         (Row::RuleB, "rule B: timeout certificate formed"),
         (Row::RuleC, "rule C: block certificate formed (and sent)"),
@@ -124,6 +128,10 @@ impl Row {
         (Row::Lies, "Byzantine: records handed in"),
         (Row::Equivocations, "Byzantine: proposals beside another one of that view"),
         (Row::Barred, "records that the premises keep out"),
+        (Row::LedInTurn, "leader list: 0 to n−1"),
+        (Row::LedTwice, "leader list: with repeats"),
+        (Row::NeverLeads, "leader list: an honest replica never leads"),
+        (Row::LiarsLead, "leader list: Byzantine replicas lead most views"),
         (Row::Runs, "runs"),
     ];
 }

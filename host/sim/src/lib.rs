@@ -7,6 +7,7 @@ mod chain;
 mod cluster;
 mod core;
 mod coverage;
+mod leaders;
 mod ledger;
 mod network;
 mod plan;
@@ -18,7 +19,7 @@ pub mod words;
 
 pub use crate::core::{Core, Proved};
 pub use chain::{Rows, Violation};
-pub use cluster::{Cluster, Outcome};
+pub use cluster::{Cluster, Outcome, RefusedOpening};
 pub use coverage::{Call, Coverage, Row, SafeKind};
 pub use ledger::{Backing, Ledger, Made};
 pub use network::Run;

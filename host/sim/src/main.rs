@@ -3,15 +3,17 @@
 use std::process::ExitCode;
 use std::time::Instant;
 
-use oracle::{help, Faults, Protocol, Replica, Settings};
+use oracle::{help, Faults, Leaders, Protocol, Replica, Settings};
 use sim::{scenarios, Core, Coverage, Plan, Proved, Script, Style};
 
 const USAGE: &str = "\
-usage: sim [--calls N] [--seed S] [--settings f,c,k].. [--longest N] [--style STYLE] [--core CORE] [--fault NAME]..
+usage: sim [--calls N] [--seed S] [--settings f,c,k].. [--leaders LIST] [--longest N] [--style STYLE] [--core CORE]
+           [--fault NAME]..
        sim --scenario NAME
   --calls N         random calls over all settings, 1,000,000 if not given
   --seed S          what is drawn follows from it, 1 if not given
   --settings f,c,k  these settings in place of the usual six; may be given several times
+  --leaders LIST    the leader list of all runs, such as 0,1,0,2; each run draws its own if not given
   --longest N       the most calls of one run, 400 for each replica if not given
   --style STYLE     how runs are drawn: network, rounds, both (by turns, if not given), or old-states
   --core CORE       the replicas: oracle (if not given) or library, the proved one
@@ -25,6 +27,8 @@ struct Options {
     seed: u64,
     longest: Option<u64>,
     settings: Vec<Settings>,
+    /// The leader list of all runs; they draw their own if it is empty.
+    leaders: Vec<u8>,
     faults: Faults,
     style: Style,
     scenario: Option<String>,
@@ -56,6 +60,7 @@ fn options(mut arguments: impl Iterator<Item = String>) -> Option<Options> {
         seed: 1,
         longest: None,
         settings: Vec::new(),
+        leaders: Vec::new(),
         faults: Faults::NONE,
         style: Style::Both,
         scenario: None,
@@ -68,6 +73,9 @@ fn options(mut arguments: impl Iterator<Item = String>) -> Option<Options> {
             "--seed" => options.seed = value.parse().ok()?,
             "--longest" => options.longest = Some(value.parse().ok()?),
             "--settings" => options.settings.push(settings(&value)?),
+            "--leaders" => {
+                options.leaders = value.split(',').map(|number| number.parse().ok()).collect::<Option<_>>()?
+            }
             "--style" => options.style = style(&value)?,
             "--fault" if options.faults.set(&value) => {}
             "--scenario" => options.scenario = Some(value),
@@ -82,7 +90,9 @@ fn options(mut arguments: impl Iterator<Item = String>) -> Option<Options> {
         let usual = ["1,1,0", "0,4,0", "2,2,2", "1,2,0", "2,1,2", "7,5,0"];
         options.settings = usual.iter().filter_map(|text| settings(text)).collect();
     }
-    Some(options)
+    let taken = |settings: &Settings| Leaders::new(&options.leaders, *settings).is_some();
+    let given = !options.leaders.is_empty();
+    (!given || options.settings.iter().all(taken)).then_some(options)
 }
 
 fn main() -> ExitCode {
@@ -112,6 +122,7 @@ fn explore<C: Core>(options: &Options, opening: C::Options) -> bool {
         let plan: Plan<C> = Plan {
             options: opening,
             protocol,
+            leaders: Leaders::new(&options.leaders, settings),
             seed: options.seed,
             calls: options.calls / options.settings.len() as u64,
             longest: options.longest.unwrap_or(Plan::<C>::usual_longest(&protocol)),

@@ -5,13 +5,14 @@ use std::collections::VecDeque;
 use std::rc::Rc;
 
 use oracle::wire::{self, kind, Record};
-use oracle::{members, Block, Height, Name, Protocol, View, GENESIS};
+use oracle::{members, Block, Height, Leaders, Name, Protocol, View, GENESIS};
 
 use crate::adversary::Adversary;
 use crate::chain::Violation;
-use crate::cluster::{Cluster, Outcome};
+use crate::cluster::{Cluster, Outcome, RefusedOpening};
 use crate::core::Core;
 use crate::coverage::Row;
+use crate::leaders;
 use crate::random::Random;
 
 /// A record on its way. A forged one has no honest sender.
@@ -79,16 +80,17 @@ pub struct Run<C: Core> {
 }
 
 impl<C: Core> Run<C> {
-    /// A run with some number of Byzantine replicas, at most f.
-    pub fn new(options: C::Options, protocol: Protocol, seed: u64) -> Run<C> {
+    /// A run with some number of Byzantine replicas, at most f, and this leader list or one that is drawn.
+    pub fn new(options: C::Options, protocol: Protocol, leaders: Option<Leaders>, seed: u64) -> Run<C> {
         let mut random = Random::new(seed);
         let settings = protocol.settings;
         let count = if random.chance(800) { settings.f() } else { random.below(settings.f() as usize + 1) as u32 };
         let liars = random.part_of(settings.everyone(), count);
+        let leaders = leaders.unwrap_or_else(|| leaders::draw(settings, liars, &mut random));
         let n = settings.n() as usize;
         Run {
-            cluster: Cluster::open(options, protocol, liars),
-            adversary: Adversary::new(protocol, liars),
+            cluster: Cluster::open(options, protocol, leaders, liars),
+            adversary: Adversary::new(protocol, leaders, liars),
             weather: Weather::new(&mut random),
             random,
             queues: (0..n).map(|_| VecDeque::new()).collect(),
@@ -184,10 +186,7 @@ impl<C: Core> Run<C> {
         for record in std::mem::take(&mut self.cluster.sent) {
             let others = self.cluster.ledger().honest() & !(1 << from);
             let to = match wire::kind_of(&record) {
-                kind::TIMEOUT_CERTIFICATE => {
-                    let next = View(wire::u64_at(&record, 8) + 1);
-                    others & 1 << self.cluster.protocol().settings.leader(next)
-                }
+                kind::TIMEOUT_CERTIFICATE => others & 1 << self.cluster.leader(wire::u64_at(&record, 8) + 1),
                 _ => others,
             };
             self.send(Some(from), &record, to);
@@ -346,8 +345,8 @@ impl<C: Core> Run<C> {
 
     fn is_turn(&self, replica: usize) -> bool {
         let view = self.cluster.view(replica);
-        let leader = usize::from(self.cluster.protocol().settings.leader(View(view)));
-        leader == replica && !self.has_timed_out(replica) && self.proposed[replica] != view
+        let leads = self.cluster.leader(view) == replica;
+        leads && !self.has_timed_out(replica) && self.proposed[replica] != view
     }
 
     fn propose_in_turn(&mut self, replica: usize) {
@@ -420,8 +419,8 @@ impl<C: Core> Run<C> {
             0 => self.odd_timer(replica),
             1 => self.odd_propose(replica),
             2 => {
-                let bad = self.random.chance(500);
-                self.cluster.refused_opening(replica, bad);
+                let refused = *self.random.pick(&RefusedOpening::ALL).expect("openings");
+                self.cluster.refused_opening(replica, refused);
             }
             _ => {
                 let record = self.damaged_record();
@@ -440,7 +439,7 @@ impl<C: Core> Run<C> {
     fn odd_propose(&mut self, replica: usize) {
         let view = self.cluster.view(replica);
         let known = self.cluster.ledger().made(view - 1).votes.first().map(|backing| backing.name);
-        let leader = usize::from(self.cluster.protocol().settings.leader(View(view)));
+        let leader = self.cluster.leader(view);
         let replica = if self.is_up(leader) && self.random.chance(800) { leader } else { replica };
         let name = match self.random.below(3) {
             0 => GENESIS,

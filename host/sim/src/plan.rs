@@ -1,6 +1,6 @@
 //! Many random runs, each from its own seed.
 
-use oracle::Protocol;
+use oracle::{Leaders, Protocol};
 
 use crate::chain::Violation;
 use crate::cluster::Cluster;
@@ -25,6 +25,8 @@ pub enum Style {
 pub struct Plan<C: Core> {
     pub options: C::Options,
     pub protocol: Protocol,
+    /// The leader list of all runs; each draws its own if there is none.
+    pub leaders: Option<Leaders>,
     pub seed: u64,
     pub calls: u64,
     /// The most calls of one run.
@@ -78,11 +80,12 @@ impl<C: Core> Plan<C> {
     fn play_one(&self, style: Style, seed: u64, length: u64, coverage: &mut Coverage) -> (u64, Option<Violation>) {
         coverage.add(Row::Runs, 1);
         if style != Style::Network {
-            let mut run: Rounds<C> = Rounds::new(self.options, self.protocol, seed, style == Style::OldStates);
+            let old_states = style == Style::OldStates;
+            let mut run: Rounds<C> = Rounds::new(self.options, self.protocol, self.leaders, seed, old_states);
             run.play(length);
             conclude(run.cluster(), coverage)
         } else {
-            let mut run: Run<C> = Run::new(self.options, self.protocol, seed);
+            let mut run: Run<C> = Run::new(self.options, self.protocol, self.leaders, seed);
             run.play(length);
             conclude(run.cluster(), coverage)
         }

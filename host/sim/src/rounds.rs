@@ -5,13 +5,14 @@
 use std::rc::Rc;
 
 use oracle::wire::{self, kind, Record};
-use oracle::{members, Protocol, View, Vote};
+use oracle::{members, Leaders, Protocol, View, Vote};
 
 use crate::adversary::Adversary;
 use crate::chain::Violation;
 use crate::cluster::{Cluster, Outcome};
 use crate::core::Core;
 use crate::coverage::Row;
+use crate::leaders;
 use crate::ledger::Backing;
 use crate::random::Random;
 
@@ -25,16 +26,24 @@ pub struct Rounds<C: Core> {
 }
 
 impl<C: Core> Rounds<C> {
-    pub fn new(options: C::Options, protocol: Protocol, seed: u64, old_states: bool) -> Rounds<C> {
+    /// Rounds with f Byzantine replicas, and this leader list or one that is drawn.
+    pub fn new(
+        options: C::Options,
+        protocol: Protocol,
+        leaders: Option<Leaders>,
+        seed: u64,
+        old_states: bool,
+    ) -> Rounds<C> {
         let mut random = Random::new(seed);
         let settings = protocol.settings;
         let mut liars = random.part_of(settings.everyone(), settings.f());
         if random.chance(600) {
-            liars = random.part_of(settings.everyone() & 0xf, settings.f()); // they lead soon
+            liars = random.part_of(settings.everyone() & 0xf, settings.f()); // by 0 to n−1 they lead soon
         }
+        let leaders = leaders.unwrap_or_else(|| leaders::draw(settings, liars, &mut random));
         Rounds {
-            cluster: Cluster::open(options, protocol, liars),
-            adversary: Adversary::new(protocol, liars),
+            cluster: Cluster::open(options, protocol, leaders, liars),
+            adversary: Adversary::new(protocol, leaders, liars),
             random,
             old_states,
             saved: Vec::new(),
@@ -175,7 +184,7 @@ impl<C: Core> Rounds<C> {
     // ------------------------------------------------------------ the steps of a view
 
     fn proposals(&mut self, view: u64) {
-        let leader = usize::from(self.cluster.protocol().settings.leader(View(view)));
+        let leader = self.cluster.leader(view);
         if !self.cluster.is_honest(leader) {
             return self.equivocate(view);
         }
@@ -278,7 +287,7 @@ impl<C: Core> Rounds<C> {
     }
 
     fn timeouts(&mut self, view: u64) {
-        let next = 1u64 << self.cluster.protocol().settings.leader(View(view + 1));
+        let next = 1u64 << self.cluster.leader(view + 1);
         let receivers = (self.lot() | next) & self.honest();
         for replica in members(receivers) {
             let heard = self.generous_lot();
@@ -302,7 +311,7 @@ impl<C: Core> Rounds<C> {
     }
 
     fn timeout_certificate(&mut self, view: u64) {
-        let sender = self.cluster.protocol().settings.leader(View(view + 1));
+        let sender = self.cluster.leader(view + 1) as u16;
         let to = self.lot();
         if let Some(record) = self.adversary.timeouts_of(self.cluster.ledger(), sender, view, &mut self.random) {
             self.hand_to_all(to, &record);

@@ -3,7 +3,7 @@
 use std::rc::Rc;
 
 use oracle::wire::{self, kind, Record};
-use oracle::{Block, Certificate, Height, Name, Protocol, Timeout, View, Vote};
+use oracle::{Block, Certificate, Height, Leaders, Name, Protocol, Timeout, View, Vote};
 
 use crate::cluster::{Cluster, Outcome};
 use crate::core::Core;
@@ -24,9 +24,14 @@ pub struct Script<C: Core> {
 }
 
 impl<C: Core> Script<C> {
+    /// The leader list is 0 to n−1.
     pub fn open(options: C::Options, protocol: Protocol, byzantine: &[usize]) -> Script<C> {
+        Self::open_led(options, protocol, Leaders::in_turn(protocol.settings), byzantine)
+    }
+
+    pub fn open_led(options: C::Options, protocol: Protocol, leaders: Leaders, byzantine: &[usize]) -> Script<C> {
         let byzantine = byzantine.iter().fold(0, |set, replica| set | 1 << replica);
-        let cluster: Cluster<C> = Cluster::open(options, protocol, byzantine);
+        let cluster: Cluster<C> = Cluster::open(options, protocol, leaders, byzantine);
         let told = vec![0; cluster.n()];
         Script { cluster, sent: Vec::new(), calls: Vec::new(), steps: Vec::new(), trace: Vec::new(), told }
     }

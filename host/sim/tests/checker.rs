@@ -1,6 +1,8 @@
 //! The checker itself: it sees every way in which the claim can fail, and keeps to the premises.
 
-use oracle::{wire, Block, Certificate, Faults, Height, Name, Protocol, Replica, Settings, View, Vote, GENESIS};
+use oracle::{
+    wire, Block, Certificate, Faults, Height, Leaders, Name, Protocol, Replica, Settings, View, Vote, GENESIS,
+};
 use sim::{Cluster, Core, Outcome, Rows, Violation};
 
 const A: Name = [b'A'; 32];
@@ -50,8 +52,8 @@ fn two_chains_are_seen() {
 
 /// The cluster of six with replica 0 Byzantine.
 fn six() -> Cluster<Replica> {
-    let protocol = Protocol::new(Settings::new(1, 1, 0).unwrap(), Faults::NONE);
-    Cluster::open(Faults::NONE, protocol, 1)
+    let settings = Settings::new(1, 1, 0).unwrap();
+    Cluster::open(Faults::NONE, Protocol::new(settings, Faults::NONE), Leaders::in_turn(settings), 1)
 }
 
 fn record(write: impl FnOnce(&mut Vec<u8>)) -> Vec<u8> {

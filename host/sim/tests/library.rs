@@ -14,7 +14,7 @@ fn protocol((f, c, k): (u64, u64, u64)) -> Protocol {
 fn play<C: Core>(options: C::Options, settings: (u64, u64, u64), calls: u64, coverage: &mut Coverage) -> u64 {
     let protocol = protocol(settings);
     let longest = Plan::<C>::usual_longest(&protocol);
-    let plan: Plan<C> = Plan { options, protocol, seed: 77, calls, longest, style: Style::Both };
+    let plan: Plan<C> = Plan { options, protocol, leaders: None, seed: 77, calls, longest, style: Style::Both };
     plan.play(coverage).expect("one chain")
 }
 

@@ -7,7 +7,7 @@ fn plan(settings: (u64, u64, u64), faults: Faults, seed: u64, calls: u64) -> Pla
     let (f, c, k) = settings;
     let protocol = Protocol::new(Settings::new(f, c, k).unwrap(), faults);
     let longest = Plan::<Replica>::usual_longest(&protocol);
-    Plan { options: faults, protocol, seed, calls, longest, style: Style::Both }
+    Plan { options: faults, protocol, leaders: None, seed, calls, longest, style: Style::Both }
 }
 
 /// f = 0, k > 0, thirteen replicas and the largest cluster are among them.

@@ -1,7 +1,6 @@
 //! The lanes of a panel: time runs from left to right, one column for each view.
 
 use oracle::wire::kind;
-use oracle::View;
 
 use crate::captions::draw_number;
 use crate::layout::{Arrow, Node};
@@ -80,7 +79,7 @@ impl Lanes<'_> {
 
     /// A view's heading, the longest first.
     fn view_words(&self, view: u64) -> [String; 3] {
-        let leader = self.panel.played.opened.protocol.settings.leader(View(view));
+        let leader = self.panel.played.opened.leader(view);
         let lies = self.lanes().iter().any(|lane| lane.replica == leader && lane.is_byzantine);
         let lies = if lies { " (Byzantine)" } else { "" };
         [format!("view {view}, leader {leader}{lies}"), format!("view {view}"), view.to_string()]

@@ -6,7 +6,7 @@ use oracle::wire::kind;
 pub fn meaning(number: u16, call: Option<u16>) -> &'static str {
     let call = call.unwrap_or(0);
     match number {
-        1 => "settings break a rule, or own number isn't below n",
+        1 => "settings or the leader list break a rule, or own number isn't below n",
         2 => "memory, store or output region unfit",
         3 => "cut short, or a length that isn't the kind's",
         4 => "kind out of place",

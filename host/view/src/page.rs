@@ -46,7 +46,7 @@ fn write_table(html: &mut String, played: &Played) {
     for event in played.events.iter().take(LISTED) {
         if event.reached != view {
             view = event.reached;
-            let leader = played.opened.protocol.settings.leader(oracle::View(view));
+            let leader = played.opened.leader(view);
             let _ = writeln!(html, "<tr class=\"view\"><td colspan=\"9\">view {view}, leader {leader}</td></tr>");
         }
         write_row(html, event, played);

@@ -1,7 +1,7 @@
 //! Plays a recording on replicas, call by call.
 
 use oracle::wire::{self, kind};
-use oracle::{Name, Protocol, Refusal};
+use oracle::{Leaders, Name, Protocol, Refusal, View};
 
 use crate::recording::{Call, Error, Recording, Step};
 use crate::shown::{hand_in, Shown};
@@ -95,6 +95,7 @@ pub struct Opened {
     pub title: Option<String>,
     pub about: Option<String>,
     pub protocol: Protocol,
+    pub leaders: Leaders,
     /// Ascending by number.
     pub lanes: Vec<Lane>,
     pub steps: Vec<Step>,
@@ -115,11 +116,17 @@ impl Opened {
             title: recording.title.clone(),
             about: recording.about.clone(),
             protocol,
+            leaders: recording.leaders(),
             lanes,
             steps: recording.steps.clone(),
             calls: recording.entries.len(),
             is_cluster: recording.is_cluster,
         }
+    }
+
+    /// Who leads a view.
+    pub fn leader(&self, view: u64) -> u16 {
+        self.leaders.leader(View(view))
     }
 }
 
@@ -190,7 +197,8 @@ pub fn play<C: Shown, E>(
 
 fn open<C: Shown>(recording: &Recording, options: C::Options, own: u16) -> C {
     let [f, c, k, n, own] = recording.opening(own).map(u64::from);
-    C::open(options, f, c, k, n, own).unwrap_or_else(|number| panic!("good settings are refused with {number}"))
+    let opened = C::open(options, f, c, k, n, own, recording.leaders().list());
+    opened.unwrap_or_else(|number| panic!("good settings are refused with {number}"))
 }
 
 fn call<C: Shown>(replica: &mut C, own: u16, record: &[u8]) -> Event {

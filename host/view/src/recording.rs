@@ -13,7 +13,7 @@
 use std::fmt;
 
 use oracle::wire::{self, kind};
-use oracle::{Name, Settings};
+use oracle::{Leaders, Name, Settings};
 
 pub const MAGIC: &str = "cluster run, format 1";
 
@@ -120,6 +120,11 @@ impl Recording {
         let settings = self.settings;
         let [f, c, k, n] = [settings.f(), settings.c(), settings.k(), settings.n()].map(|number| number as u16);
         [f, c, k, n, own]
+    }
+
+    /// The leader list, which the run program opens with.
+    pub fn leaders(&self) -> Leaders {
+        Leaders::in_turn(self.settings)
     }
 
     /// The input of the run program for one replica of this run.

@@ -69,7 +69,7 @@ impl<'a, W: Write> Timeline<'a, W> {
     pub fn event(&mut self, event: &Event) -> io::Result<()> {
         if event.reached != self.view {
             self.view = event.reached;
-            let leader = self.opened.protocol.settings.leader(oracle::View(self.view));
+            let leader = self.opened.leader(self.view);
             writeln!(self.out, "\nview {}, leader {leader}", self.view)?;
         }
         for step in self.opened.steps.iter().filter(|step| step.first + 1 == event.index) {
