@@ -9,6 +9,7 @@ use borrow.Author.Tests.{le-leb, lt-leb, lt-ltb, le-ltb, eq-eqb, ne-eqb, leb-fal
 use lib.Dec.{eqb, ltb, leb}
 use lib.ListN.{length, take, drop, getD, drop-of-length-le}
 use lib.Seq.{drop-cons}
+use Rattle.settings.specs.Quorum.{largest}
 use Rattle.settings.specs.Opening.{mostLeaders, hasFrom, badLeaders, numbersFrom, inTurn}
 
 -- ---- a look at entry i
@@ -96,8 +97,8 @@ unfolding numbersFrom hasFrom
 numbers-below n i zero h = refl
 numbers-below n i (suc k) h = let less : i < n = omega arith in rw (lt-leb _ _ less) (numbers-below n (suc i) k (omega arith))
 
--- opening takes it, in a cluster of 1 to 64
-pub in-turn-good : (n : ℕ) → 0 < n → n ≤ mostLeaders → badLeaders n (inTurn n) ≡ false
+-- opening takes it, in every cluster
+pub in-turn-good : (n : ℕ) → 0 < n → n ≤ largest → badLeaders n (inTurn n) ≡ false
 in-turn-good n p h =
     let l = length-numbers 0 n in
     sized-bad n (inTurn n) (λ e. omega (arith, l, e)) (omega (arith, l)) ∙ numbers-below n 0 n (omega arith)
