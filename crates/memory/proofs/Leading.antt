@@ -23,7 +23,7 @@ in-turn-is m e v =
 
 -- ---- where the code finds it
 module _ (m : List ℕ) (long : entryPlace ≤ length m) (most : leaderCountOf m ≤ mostLeaders) where
-  pub length-leaders : length (leadersOf m) ≡ leaderCountOf m
+  length-leaders : length (leadersOf m) ≡ leaderCountOf m
   unfolding leadersOf
   length-leaders = length-take-le (leaderCountOf m) (part m leadersPlace mostLeaders) (omega (arith, length-part m leadersPlace mostLeaders (omega arith)))
 
