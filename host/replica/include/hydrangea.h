@@ -84,7 +84,7 @@ typedef struct hydrangea_reply {
 /*
  * Opens the replica `own` of a cluster of n = 3f + 2c + k + 1 in what is lent, whatever stood there. The leader list
  * has 1 to 64 replica numbers, one byte each; the leader of view v is entry (v - 1) mod its length. A replica may stand
- * in it several times or not at all. The list is kept in the memory, where no call changes it. Refusals 1 (settings,
+ * in it several times or not at all. The list is kept in the memory, where no other call changes it. Refusals 1 (settings,
  * own number, or the list is empty, longer or has an entry of n or above) and 2 (a region is too short). The store's
  * entries are left as they are; nothing is written to send.
  */
