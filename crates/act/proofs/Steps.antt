@@ -17,7 +17,6 @@ use Rattle.blocks.specs.declared.Block.{Block}
 use Rattle.blocks.specs.Store.{genesis}
 use Rattle.protocol.specs.Work.{Work}
 use Rattle.protocol.specs.Typed.{BlockTyped, CountersTyped}
-use Rattle.settings.specs.Opening.{inBound}
 use Rattle.protocol.specs.Refusals.{storeLength, regular}
 use Rattle.protocol.proofs.call.Typing.{zero-is-name}
 use Rattle.protocol.proofs.call.Regular.{Regular, rules-regular, regular-rules}
@@ -183,8 +182,7 @@ pub ready-facts : (d : Draft) (m o : List ℕ) {k : ℕ} → Ready d m o k → F
 unfolding regular
 ready-facts d m o r =
     let a = and-true _ _ (r .regular) in
-    let b = and-true (inBound (settingsOf m)) _ (a .1) in
-    let c = and-true _ _ (b .1) in
+    let c = and-true _ _ (a .1) in
     let e = and-true _ _ (c .1) in
     let f = and-true _ _ (e .1) in
     let g = and-true (leb (blockCountOf m) storeLength) _ (f .1) in

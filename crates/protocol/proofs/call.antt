@@ -5,6 +5,7 @@ pub mod Actions
 pub mod Certificates
 pub mod Rules
 pub mod Opening
+pub mod Clusters
 pub mod Written
 pub mod Output
 pub mod Proposals

@@ -1,4 +1,4 @@
--- Runs and results of 01: a run that meets the premises of demand 3, the listing, the ten results.
+-- Runs and results of 01: a run that meets the premises of demand 3, the listing, the known results.
 pub mod Rows
 pub mod Applies
 pub mod Calls

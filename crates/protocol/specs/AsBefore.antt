@@ -1,5 +1,5 @@
--- AS BEFORE (02, 2.1: "With regions long enough, the list 0 to n−1 must behave exactly as today"): an opening with that list answers as 01's, and every list of
--- calls from there gives what it gives by 01's rule of the leader. That both hold is proofs/call/AsBefore.antt. Assumes nothing.
+-- AS BEFORE (02, 2.1: "With regions long enough, the list 0 to n−1 must behave exactly as today"): an opening with that list answers as one that asks for no
+-- list, and every list of calls from there gives what it gives by 01's rule of the leader. That both hold is proofs/call/AsBefore.antt. Assumes nothing.
 use Prim.Native.Nat.{ℕ}
 use mathlib.Core.Path.{_≡_}
 use mathlib.Core.List.{List, []}
@@ -15,7 +15,7 @@ use Rattle.protocol.specs.Typed.{BlockTyped}
 use Rattle.protocol.specs.Calls.{Replica, _then_, lengthRules, openedMemory, openingCore, openingCall}
 use Rattle.protocol.specs.OneCall.{left, Handing, HandingTyped, outcomes}
 
--- 01's refusals of an opening, which knows no list: 1 by the settings and the own number, then 2
+-- the refusals of an opening that asks for no list, as 01's does: 1 by the settings and the own number, then 2
 abbrev pub refusalsBefore : Replica → Settings → ℕ → ℕ → List Rule
 refusalsBefore r s n own = openingRules s n own then lengthRules r
 

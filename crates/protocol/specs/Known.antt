@@ -1,5 +1,5 @@
--- THE TEN RESULTS that 01 marks as proved (01: Known results), as one table, and what a line of it says of the calls. That every line holds is
--- proofs/example/Known.antt. Assumes nothing.
+-- THE KNOWN RESULTS: the ten that 01 marks as proved (01: Known results), of which 02, 2.2 changes one and to which it adds one, as one table, and what a line
+-- of it says of the calls. That every line holds is proofs/example/Known.antt. Assumes nothing.
 use Prim.Native.Nat.{ℕ, suc, _≤_, _<_}
 use mathlib.Core.Path.{_≡_}
 use mathlib.Core.Bool.{false, cond}
@@ -89,13 +89,14 @@ twoSigners = 3
 abbrev pub fourSigners : ℕ
 fourSigners = 15
 
--- ---- THE TABLE, for names "A < B" of blocks
+-- ---- THE TABLE, for names "A < B" of blocks. 02, 2.2: "(2,0,1) opens with n = 8 and 6, 3, 6, 5, 8"; the cluster of ten has "6, 4, 7, 5, 8 in 01's order"
 abbrev pub known : List ℕ → List ℕ → List Case
 known A B =
     settings 1 1 0 6 (accepts (4 ∷ 2 ∷ 4 ∷ 4 ∷ 6 ∷ []))
     ∷ settings 2 2 2 13 (accepts (8 ∷ 5 ∷ 9 ∷ 7 ∷ 11 ∷ []))
     ∷ settings 7 5 0 32 (accepts (20 ∷ 10 ∷ 20 ∷ 20 ∷ 30 ∷ []))
-    ∷ settings 2 0 1 8 (refuses 1)
+    ∷ settings 2 0 1 8 (accepts (6 ∷ 3 ∷ 6 ∷ 5 ∷ 8 ∷ []))
+    ∷ settings 1 2 2 10 (accepts (6 ∷ 4 ∷ 7 ∷ 5 ∷ 8 ∷ []))
     ∷ settings 8 4 0 33 (refuses 1)
     ∷ timeouts (votes A ∷ votes A ∷ votes B ∷ none ∷ []) genesis (accepts (weakCertificate 3 A twoSigners))
     ∷ timeouts (votes A ∷ votes A ∷ votes B ∷ votes B ∷ []) genesis (accepts (weakCertificate 3 A twoSigners))

@@ -5,6 +5,7 @@ pub mod Events
 pub mod Rules
 pub mod Applies
 pub mod Calls
+pub mod Clusters
 pub mod OneCall
 pub mod AsBefore
 pub mod Whole

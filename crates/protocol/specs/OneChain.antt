@@ -1,4 +1,4 @@
--- DEMAND 3 (01: A run of the ring; 02: 2.1): the run, the premises and the claim, each under the sentence of 01 that it states. No proof is here: it is
+-- DEMAND 3 (01: A run of the ring; 02: 2.1, 2.2): the run, the premises and the claim, each under the sentence of 01 that it states. No proof is here: it is
 -- proofs/chain/Demand3.antt. It speaks of `recordCall`, `timerCall`, `proposeCall` and `openingCall` of Calls.antt, with which the contracts of the calls in code, `replica::hydrangea_*`,
 -- are equations: so what is shown here of these definitions holds of the code. Outside lie the host (docs/INTERFACE.md lists its duties, which are the premises), the signatures and the compiler's back end. Assumes nothing.
 use Prim.Native.Nat.{ℕ, zero, suc, _+_, _≤_, _<_}
@@ -228,7 +228,8 @@ module _ (set : Settings) (honest : ℕ → Bool) (σ : ℕ → Replica) where
       pub shorter : (i j : ℕ) → T (honest i) → T (honest j) → length (rowOf i) ≤ length (rowOf j) → Begins (rowOf i) (rowOf j)
       pub same : (i j : ℕ) → T (honest i) → T (honest j) → length (rowOf i) ≡ length (rowOf j) → rowOf i ≡ rowOf j
 
--- DEMAND 3: for every settings, leader list, choice of honest replicas, opened states and list of entries
+-- DEMAND 3: for every settings, leader list, choice of honest replicas, opened states and list of entries. 02, 2.2: "promised over all these settings with one
+-- argument, a ring of one box included": of the settings nothing is asked but that opening takes them
 abbrev pub Demand3 : Type 0
 Demand3 =
     (set : Settings) (leaders : List ℕ) (honest : ℕ → Bool) (σ : ℕ → Replica) (run : List (ℕ × Entry)) → Premises set honest σ run leaders → OneChain set honest σ run

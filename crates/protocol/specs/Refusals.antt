@@ -7,7 +7,7 @@ use lib.Dec.{eqb, ltb, leb}
 use lib.ListN.{length}
 use Rattle.settings.specs.Answer.{Rule, _⇒_}
 use Rattle.settings.specs.Quorum.{largest, lastView, lastHeight}
-use Rattle.settings.specs.Opening.{inBound, mostLeaders}
+use Rattle.settings.specs.Opening.{mostLeaders}
 use Rattle.codec.specs.Names.{nameLength, sameBytes, zeroName}
 use Rattle.wire.specs.Fields.{kindOf, countOf, blockCertificateLength, timeoutsHead, timeoutLength}
 use Rattle.wire.specs.Content.{Certificate, byBlock, byTimeouts, certificateOf, Content, vote, commit, certificate, timeout, proposal, block, release}
@@ -20,7 +20,7 @@ use Rattle.memory.specs.Kept.{has, kept}
 use Rattle.memory.specs.Window.{lowest}
 use Rattle.memory.specs.Leaders.{Leading}
 use Rattle.counters.specs.Counters.{locksOf}
-use Rattle.protocol.specs.Work.{Work, settings, n, own, viewNow, timed, highView, tip, heldBlock}
+use Rattle.protocol.specs.Work.{Work, settings, n, own, viewNow, timed, highView, heldBlock}
 
 -- "it holds 128 beside the tip"; "The output region has 32,768 bytes"
 abbrev pub storeLength : ℕ
@@ -45,10 +45,10 @@ module _ (W : Work) where
 
   unfoldable pub regular : Bool
   regular =
-      leb (n W) largest && (inBound (settings W) && (ltb (own W) (n W)
+      leb (n W) largest && (ltb (own W) (n W)
       && (leb 1 (viewNow W) && (leb (viewNow W) lastView
       && (leb (blockCountOf (W .memory)) storeLength && (entryRegular
-      && (leb 1 (leaderCountOf (W .memory)) && leb (leaderCountOf (W .memory)) mostLeaders)))))))
+      && (leb 1 (leaderCountOf (W .memory)) && leb (leaderCountOf (W .memory)) mostLeaders))))))
 
   unfoldable pub regionRules : ℕ → List Rule
   regionRules room =

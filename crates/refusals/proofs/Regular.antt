@@ -8,12 +8,12 @@ use borrow.Author.Tests.{ne-eqb, leb-true, ltb-true, eqb-true}
 use lib.Dec.{eqb, leb, ltb}
 use lib.ListN.{length, drop, length-take, length-drop}
 use Rattle.settings.specs.Quorum.{largest, lastView}
-use Rattle.settings.specs.Opening.{inBound, mostLeaders}
+use Rattle.settings.specs.Opening.{mostLeaders}
 use Rattle.codec.specs.Bytes.{part}
 use Rattle.codec.proofs.Order.{and-true}
 use Rattle.wire.specs.Fields.{kindOf, countOf}
 use Rattle.memory.specs.Layout.{memoryLength, entryPlace, entryLengthOf, entryOf, blockCountOf, leaderCountOf}
-use Rattle.protocol.specs.Work.{Work, settings, n, own, viewNow}
+use Rattle.protocol.specs.Work.{Work, n, own, viewNow}
 use Rattle.protocol.specs.Refusals.{storeLength, regular}
 use Rattle.refusals.specs.Early.{certificateSized}
 
@@ -49,17 +49,16 @@ sized-timeouts n r e k =
     eqb-true _ _ (and-true (leb (countOf r) n) _ (and-true (eqb (kindOf r) 6) _ (rw (ne-eqb (kindOf r) 3 k) at e) .1) .1)
 
 -- ---- the rules in the code's order
-and-regroup : (a b c d : Bool) → (a && (b && (c && d))) ≡ ((a && (b && c)) && d)
-and-regroup true true c d = refl
-and-regroup true false c d = refl
-and-regroup false b c d = refl
+and-regroup : (a b c : Bool) → (a && (b && c)) ≡ ((a && b) && c)
+and-regroup true b c = refl
+and-regroup false b c = refl
 
 module _ (W : Work) where
-  pub regular-is : regular W ≡ ((leb (n W) largest && (inBound (settings W) && ltb (own W) (n W)))
+  pub regular-is : regular W ≡ ((leb (n W) largest && ltb (own W) (n W))
       && (leb 1 (viewNow W) && (leb (viewNow W) lastView && (leb (blockCountOf (W .memory)) storeLength && (certificateSized (n W) (entryOf (W .memory))
       && (leb 1 (leaderCountOf (W .memory)) && leb (leaderCountOf (W .memory)) mostLeaders))))))
   unfolding regular certificateSized
-  regular-is = and-regroup (leb (n W) largest) (inBound (settings W)) (ltb (own W) (n W)) _
+  regular-is = and-regroup (leb (n W) largest) (ltb (own W) (n W)) _
 
   -- what a replica has whose regions pass
   pub record Passed : Type 0 where
@@ -81,7 +80,7 @@ module _ (W : Work) where
       let l = and-true _ _ (t .1) in
       record {
         few = leb-true _ _ (s .0);
-        member = ltb-true _ _ (and-true (inBound (settings W)) _ (s .1) .1);
+        member = ltb-true _ _ (s .1);
         view-first = leb-true _ _ (b .0);
         view-last = leb-true _ _ (v .0);
         entry = t .0;

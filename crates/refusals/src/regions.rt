@@ -19,7 +19,7 @@ ghost use Prim.Native.Nat.{_+_, _*_, _≤_};
 ghost use lib.Dec.{leb, ltb};
 ghost use lib.ListN.{length};
 ghost use Rattle.settings.specs.Quorum.{largest, replicas};
-ghost use Rattle.settings.specs.Opening.{inBound, mostLeaders};
+ghost use Rattle.settings.specs.Opening.{mostLeaders};
 ghost use Rattle.wire.specs.Fields.{timeoutsHead};
 ghost use Rattle.blocks.specs.declared.Block.{Block};
 ghost use Rattle.memory.specs.Layout.{memoryLength, entryOf};
@@ -66,14 +66,9 @@ fn entry_regular(mem: &[u8], n: u64) -> bool
 
 // Settings that opening takes, and an own number of the cluster.
 fn settings_regular(s: Settings, own: u64) -> bool
-    ensures { λ r. ⌜ r ≡ (leb (replicas s) largest && (inBound s && ltb own (replicas s))) ⌝ }
+    ensures { λ r. ⌜ r ≡ (leb (replicas s) largest && ltb own (replicas s)) ⌝ }
 {
     if Settings::LARGEST < s.n() {
-        return false;
-    }
-    // 4 for even c, 3 for odd c
-    let room = 4 - (s.c as u64) % 2;
-    if 2 * (s.f as u64) + (s.c as u64) < (s.k as u64) + room {
         return false;
     }
     own < s.n()

@@ -7,7 +7,7 @@ use borrow.Author.Tests.{leb-true, le-leb}
 use lib.Dec.{ltb, leb}
 use lib.ListN.{length}
 use Rattle.settings.specs.Quorum.{largest, lastView}
-use Rattle.settings.specs.Opening.{inBound, mostLeaders}
+use Rattle.settings.specs.Opening.{mostLeaders}
 use Rattle.codec.proofs.Order.{and-true}
 use Rattle.blocks.specs.declared.Block.{Block}
 use Rattle.blocks.specs.Store.{kept}
@@ -16,12 +16,11 @@ use Rattle.blocks.proofs.Fewer.{kept-within}
 use Rattle.memory.specs.Layout.{memoryLength, blockCountOf, leaderCountOf, withBlockCount}
 use Rattle.memory.proofs.Header.{count-put, count-settings, count-own, count-leaders, count-entry}
 use Rattle.counters.specs.Counters.{releasing}
-use Rattle.protocol.specs.Work.{Work, settings, n, own, viewNow, blocks, release}
+use Rattle.protocol.specs.Work.{Work, n, own, viewNow, blocks, release}
 use Rattle.protocol.specs.Refusals.{storeLength, regular, entryRegular}
 
 pub record Bounded (W : Work) : Type 0 where
   pub few : n W ≤ largest
-  pub bound : inBound (settings W) ≡ true
   pub member : ltb (own W) (n W) ≡ true
   pub view-first : 1 ≤ viewNow W
   pub view-last : viewNow W ≤ lastView
@@ -33,15 +32,13 @@ pub bounded : (W : Work) → regular W ≡ true → Bounded W
 unfolding regular
 bounded W e =
     let a = and-true _ _ e in
-    let b = and-true _ _ (a .1) in
-    let c = and-true _ _ (b .1) in
+    let c = and-true _ _ (a .1) in
     let d = and-true _ _ (c .1) in
     let f = and-true _ _ (d .1) in
     let g = and-true _ _ (f .1) in
     let h = and-true _ _ (g .1) in
     record {
       few = leb-true _ _ (a .0);
-      bound = b .0;
       member = c .0;
       view-first = leb-true _ _ (d .0);
       view-last = leb-true _ _ (f .0);
@@ -69,4 +66,4 @@ release-regular W v b l e =
     let k = length (kept b (blocks W)) in
     let h = count-after W b e l in
     let B = bounded W e in
-    rw (count-settings m k, count-own m k, count-entry m k, h .1, le-leb _ _ (B .few), B .bound, B .member, le-leb _ _ (B .view-first), le-leb _ _ (B .view-last), le-leb _ _ (h .0), B .entry, count-leaders m k .count) (B .leaders)
+    rw (count-settings m k, count-own m k, count-entry m k, h .1, le-leb _ _ (B .few), B .member, le-leb _ _ (B .view-first), le-leb _ _ (B .view-last), le-leb _ _ (h .0), B .entry, count-leaders m k .count) (B .leaders)

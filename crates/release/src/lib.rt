@@ -291,7 +291,8 @@ fn next_step(p: Place, l: Look, b: Found, down: bool) -> Step
     }
 }
 
-// The search from a place on. Each call is for a decided name or for a view, so that few stand on the stack.
+// The search from a place on. One call stands on the stack for each view and each decided name that is passed over: at most n + 1 names of a view, since where f and c are 0 one
+// commit decides.
 fn target_from(mem: &[u8], store: &[Block], tip: Block, p: Place) -> Target
     requires { ⌜ (memoryLength ≤ length (now mem)) × ((replicas (settingsOf (now mem)) ≤ largest) × (p .view .0 + p .views < 2 ^ 63)) ⌝ }
     ensures { λ r. ⌜ r ≡ targetFrom p (seen tip (now (mem .entry)) (now (store .entry))) ⌝ }

@@ -160,7 +160,7 @@ unfolding openingCall openingCore openingRules leaderRules All
 opening-number r f c k n own leaders a e =
     let p : 1 ≤ 1 = lit≤ tt in
     let q : 1 ≤ 2 = lit≤ tt in
-    some-number (openingRefusals r _ n own leaders) _ a (p, (p, (p, (p, (p, (q, (q, tt))))))) (reply-refuses r [] (openingCore r f c k n own leaders) a e)
+    some-number (openingRefusals r _ n own leaders) _ a (p, (p, (p, (p, (q, (q, tt)))))) (reply-refuses r [] (openingCore r f c k n own leaders) a e)
 
 module _ (lent : Replica) (o input : List ℕ) where
   abbrev asked : Opening

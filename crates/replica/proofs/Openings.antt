@@ -10,7 +10,7 @@ use lib.ListN.{length}
 use Rattle.settings.specs.declared.Settings.{Settings}
 use Rattle.settings.specs.Answer.{accepts, refuses, Rule, judge}
 use Rattle.settings.specs.Quorum.{largest, replicas}
-use Rattle.settings.specs.Opening.{inBound, openingRules, opening, badLeaders, leaderRules}
+use Rattle.settings.specs.Opening.{openingRules, opening, badLeaders, leaderRules}
 use Rattle.memory.specs.Layout.{memoryLength}
 use Rattle.counters.specs.declared.Counters.{Counters}
 use Rattle.counters.specs.Counters.{opened}
@@ -97,15 +97,14 @@ pub own-small : (f c k n own : ℕ) (s : Settings) → opening f c k n own ≡ a
 unfolding opening openingRules judge
 own-small f c k n own s e =
     let t : Settings = record { f = f; c = c; k = k } in
-    by (eqb n (replicas t)) (ltb largest n) (inBound t) (leb n own) refl refl e
+    by (eqb n (replicas t)) (ltb largest n) (leb n own) refl refl e
   where
-    by : (t₁ t₂ t₃ t₄ : Bool) → ltb largest n ≡ t₂ → leb n own ≡ t₄
-        → cond (not t₁) (refuses 1) (cond t₂ (refuses 1) (cond (not t₃) (refuses 1) (cond t₄ (refuses 1) (accepts (record { f = f; c = c; k = k }))))) ≡ accepts s → own < 2 ^ 16
-    by false t₂ t₃ t₄ p q g = absurd (let z : _≡_ {A = ℕ} 0 1 = cc in omega arith)
-    by true true t₃ t₄ p q g = absurd (let z : _≡_ {A = ℕ} 0 1 = cc in omega arith)
-    by true false false t₄ p q g = absurd (let z : _≡_ {A = ℕ} 0 1 = cc in omega arith)
-    by true false true true p q g = absurd (let z : _≡_ {A = ℕ} 0 1 = cc in omega arith)
-    by true false true false p q g = omega (arith, ltb-false largest n p, leb-false n own q)
+    by : (t₁ t₂ t₃ : Bool) → ltb largest n ≡ t₂ → leb n own ≡ t₃
+        → cond (not t₁) (refuses 1) (cond t₂ (refuses 1) (cond t₃ (refuses 1) (accepts (record { f = f; c = c; k = k })))) ≡ accepts s → own < 2 ^ 16
+    by false t₂ t₃ p q g = absurd (let z : _≡_ {A = ℕ} 0 1 = cc in omega arith)
+    by true true t₃ p q g = absurd (let z : _≡_ {A = ℕ} 0 1 = cc in omega arith)
+    by true false true p q g = absurd (let z : _≡_ {A = ℕ} 0 1 = cc in omega arith)
+    by true false false p q g = omega (arith, ltb-false largest n p, leb-false n own q)
 
 -- the call, from what its steps leave
 pub opening-is : (c : Counters) (m : List ℕ) (l : List Block) (f b k n own : ℕ) (leaders : List ℕ) (e : Opened) (m′ : List ℕ) → openedOutcome e m′ l ≡ openingCall (lentTo c m l) f b k n own leaders

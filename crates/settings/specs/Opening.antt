@@ -1,6 +1,6 @@
--- Which five numbers and which leader list an opening takes (01: Settings and thresholds; Refusals, place "opening"; 02: 2.1). Assumes nothing.
-use Prim.Native.Nat.{ℕ, zero, suc, _+_, _*_, _%_}
-use mathlib.Core.Bool.{Bool, false, not, cond, _||_}
+-- Which five numbers and which leader list an opening takes (01: Settings and thresholds; Refusals, place "opening"; 02: 2.1, 2.2). Assumes nothing.
+use Prim.Native.Nat.{ℕ, zero, suc}
+use mathlib.Core.Bool.{Bool, false, not, _||_}
 use mathlib.Core.List.{List, [], _∷_}
 use lib.Dec.{eqb, ltb, leb}
 use lib.ListN.{length}
@@ -10,16 +10,11 @@ use Rattle.settings.specs.declared.Admission.the-variants.{Admitted, Ref
 use Rattle.settings.specs.Answer.{Answer, accepts, refuses, Rule, _⇒_, judge}
 use Rattle.settings.specs.Quorum.{largest, replicas}
 
--- "k ≤ 2f+c−4 for even c, k ≤ 2f+c−3 for odd c", over the integers
-abbrev pub inBound : Settings → Bool
-inBound s = leb (s .k + cond (eqb (s .c % 2) 0) 4 3) (2 * s .f + s .c)
-
--- "settings break a rule above, or own number ≥ n"
+-- "settings break a rule above, or own number ≥ n"; of 01's rules above, 02, 2.2 takes the bound on k away: "every k ≥ 0 is taken as long as n is at most 32"
 unfoldable pub openingRules : Settings → ℕ → ℕ → List Rule
 openingRules s n own =
     not (eqb n (replicas s)) ⇒ 1
     ∷ ltb largest n ⇒ 1
-    ∷ not (inBound s) ⇒ 1
     ∷ leb n own ⇒ 1
     ∷ []
 

@@ -107,11 +107,6 @@ pub fn admit(f: u64, c: u64, k: u64, n: u64, own: u64) -> Admission
     if Settings::LARGEST < n {
         return Admission::Refused;
     }
-    // 4 for even c, 3 for odd c
-    let room = 4 - c % 2;
-    if 2 * f + c < k + room {
-        return Admission::Refused;
-    }
     if n <= own {
         return Admission::Refused;
     }

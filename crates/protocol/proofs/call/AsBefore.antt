@@ -1,4 +1,4 @@
--- AS BEFORE: an opening with the list 0 to n - 1 answers as 01's, and every list of calls from there gives what it gives by 01's rule of the leader. Assumes nothing.
+-- AS BEFORE: an opening with the list 0 to n - 1 answers as one that asks for no list, and every list of calls from there gives what it gives by 01's rule of the leader. Assumes nothing.
 use Prim.Native.Nat.{ℕ}
 use native.Mathlib.Omega.{arith}
 use mathlib.Core.Path.{_≡_, refl, sym, ap, _∙_}
@@ -10,7 +10,7 @@ use lib.ListN.{length}
 use Rattle.settings.specs.declared.Settings.{Settings}
 use Rattle.settings.specs.Answer.{Rule, _⇒_, judge}
 use Rattle.settings.specs.Quorum.{largest, replicas}
-use Rattle.settings.specs.Opening.{inBound, openingRules, leaderRules, badLeaders, inTurn}
+use Rattle.settings.specs.Opening.{openingRules, leaderRules, badLeaders, inTurn}
 use Rattle.settings.proofs.Leaders.{in-turn-good}
 use Rattle.wire.specs.Content.{Content, vote, commit, certificate, timeout, proposal, block, release, content, byBlock, byTimeouts}
 use Rattle.wire.specs.Shape.{shapeRules}
@@ -40,7 +40,7 @@ opens-as-before r f c k n own = go (eqb n (replicas s)) refl (ltb largest n) ref
     W = openedWith r s own (inTurn n)
 
     rest : List Rule
-    rest = not (inBound s) ⇒ 1 ∷ leb n own ⇒ 1 ∷ []
+    rest = leb n own ⇒ 1 ∷ []
 
     go : (p : Bool) → eqb n (replicas s) ≡ p → (q : Bool) → ltb largest n ≡ q
         → judge ((not p ⇒ 1 ∷ q ⇒ 1 ∷ rest) then (badLeaders n (inTurn n) ⇒ 1 ∷ []) then lengthRules r) W ≡ judge ((not p ⇒ 1 ∷ q ⇒ 1 ∷ rest) then lengthRules r) W

@@ -3,14 +3,14 @@
 use Prim.Native.Nat.{ℕ, _+_, _^_, _≤_, _<_}
 use native.Mathlib.Omega.{arith}
 use mathlib.Core.Path.{_≡_, refl, sym, ap, _∙_}
-use mathlib.Core.Bool.{true, false, not}
+use mathlib.Core.Bool.{false, not}
 use mathlib.Core.List.{List, [], _++_}
 use borrow.Author.Tests.{ltb-false, leb-false, eqb-true, not-false, le-ltb, lt-leb, eq-eqb}
 use lib.Dec.{lit<, lit≤}
 use lib.ListN.{length, length-append}
 use Rattle.settings.specs.declared.Settings.{Settings}
 use Rattle.settings.specs.Quorum.{largest, replicas}
-use Rattle.settings.specs.Opening.{inBound, openingRules, badLeaders, leaderRules}
+use Rattle.settings.specs.Opening.{openingRules, badLeaders, leaderRules}
 use Rattle.settings.proofs.Leaders.{Good, good-leaders}
 use Rattle.settings.specs.Answer.{accepts}
 use Rattle.codec.specs.Bytes.{IsBytes, patch, leNat, leBytes}
@@ -41,7 +41,6 @@ use Rattle.protocol.proofs.call.Certificates.{block-form}
 -- ---- settings, own number and leader list that an opening accepts
 pub record Openable (s : Settings) (own : ℕ) (leaders : List ℕ) : Type 0 where
   pub few : replicas s ≤ largest
-  pub bound : inBound s ≡ true
   pub member : own < replicas s
   pub list : badLeaders (replicas s) leaders ≡ false
 
@@ -210,7 +209,6 @@ opened-regular m st s own leaders o b t long room =
       memory-long = omega (arith, length-opened m s own leaders);
       store-long = room;
       few = rw (opened-settings m s own leaders o long) (o .few);
-      bound = rw (opened-settings m s own leaders o long) (o .bound);
       member = rw (opened-settings m s own leaders o long, opened-own m s own leaders o long) (o .member);
       view-first = lit≤ tt;
       view-last = lit≤ tt;
@@ -236,13 +234,13 @@ opening-accepts r f c k n own leaders W e =
     let t = q .0 in
     let count : n ≡ replicas s = eqb-true _ _ (not-false _ (t .0)) in
     let small : n ≤ largest = ltb-false _ _ (t .1 .0) in
-    let low : own < n = leb-false _ _ (t .1 .1 .1 .0) in
-    let listed : badLeaders n leaders ≡ false = t .1 .1 .1 .1 .0 in
+    let low : own < n = leb-false _ _ (t .1 .1 .0) in
+    let listed : badLeaders n leaders ≡ false = t .1 .1 .1 .0 in
     record {
       count = count;
-      openable = record { few = omega arith; bound = not-false _ (t .1 .1 .0); member = omega arith; list = rw count at listed };
-      memory = ltb-false _ _ (t .1 .1 .1 .1 .1 .0);
-      store = ltb-false _ _ (t .1 .1 .1 .1 .1 .1 .0);
+      openable = record { few = omega arith; member = omega arith; list = rw count at listed };
+      memory = ltb-false _ _ (t .1 .1 .1 .1 .0);
+      store = ltb-false _ _ (t .1 .1 .1 .1 .1 .0);
       left = sym (q .1);
     }
 
@@ -251,4 +249,4 @@ pub opening-takes : (r : Replica) (s : Settings) (own : ℕ) (leaders : List ℕ
     → openingCore r (s .f) (s .c) (s .k) (replicas s) own leaders ≡ accepts (openedWork (r .memory) (r .store) s own leaders)
 unfolding openingCore openingRules leaderRules
 opening-takes r s own leaders o long many =
-    off-judge _ _ _ .1 ((ap not (eq-eqb (replicas s) (replicas s) refl), (le-ltb _ _ (o .few), (ap not (o .bound), (lt-leb _ _ (o .member), (o .list, (le-ltb _ _ long, (le-ltb _ _ many, tt))))))), refl)
+    off-judge _ _ _ .1 ((ap not (eq-eqb (replicas s) (replicas s) refl), (le-ltb _ _ (o .few), (lt-leb _ _ (o .member), (o .list, (le-ltb _ _ long, (le-ltb _ _ many, tt)))))), refl)

@@ -9,7 +9,7 @@ use borrow.Author.Tests.{leb-true, ltb-true, eqb-true, le-leb, lt-ltb, eq-eqb}
 use lib.Dec.{eqb, leb}
 use lib.ListN.{length, drop, set, length-set, length-take, length-drop}
 use Rattle.settings.specs.Quorum.{largest, lastView}
-use Rattle.settings.specs.Opening.{inBound, mostLeaders}
+use Rattle.settings.specs.Opening.{mostLeaders}
 use Rattle.codec.specs.Bytes.{IsBytes, part}
 use Rattle.codec.proofs.Order.{and-true}
 use Rattle.wire.specs.Fields.{kindOf, countOf, viewOf, blockCertificateLength, timeoutsHead, timeoutLength}
@@ -41,7 +41,6 @@ pub record Regular (W : Work) : Type 0 where
   pub memory-long : memoryLength ≤ length (W .memory)
   pub store-long : storeLength ≤ length (W .store)
   pub few : n W ≤ largest
-  pub bound : inBound (settings W) ≡ true
   pub member : own W < n W
   pub view-first : 1 ≤ viewNow W
   pub view-last : viewNow W ≤ lastView
@@ -105,15 +104,14 @@ rules-entry W e = go (eqb (kindOf r) 3) refl e
 pub regular-rules : (W : Work) → Regular W → regular W ≡ true
 unfolding regular
 regular-rules W R =
-    rw (le-leb _ _ (R .few), R .bound, lt-ltb _ _ (R .member), le-leb _ _ (R .view-first), le-leb _ _ (R .view-last), le-leb _ _ (R .room), entry-rules W (R .entry), le-leb _ _ (R .leaders-some))
+    rw (le-leb _ _ (R .few), lt-ltb _ _ (R .member), le-leb _ _ (R .view-first), le-leb _ _ (R .view-last), le-leb _ _ (R .room), entry-rules W (R .entry), le-leb _ _ (R .leaders-some))
     (le-leb _ _ (R .leaders-most))
 
 pub rules-regular : (W : Work) → Typed W → memoryLength ≤ length (W .memory) → storeLength ≤ length (W .store) → regular W ≡ true → Regular W
 unfolding regular
 rules-regular W t m s e =
     let a = and-true _ _ e in
-    let b = and-true _ _ (a .1) in
-    let c = and-true _ _ (b .1) in
+    let c = and-true _ _ (a .1) in
     let d = and-true _ _ (c .1) in
     let f = and-true _ _ (d .1) in
     let g = and-true _ _ (f .1) in
@@ -124,7 +122,6 @@ rules-regular W t m s e =
       memory-long = m;
       store-long = s;
       few = leb-true _ _ (a .0);
-      bound = b .0;
       member = ltb-true _ _ (c .0);
       view-first = leb-true _ _ (d .0);
       view-last = leb-true _ _ (f .0);
@@ -143,7 +140,6 @@ regular-after W W′ R s t a b c e =
       memory-long = omega (arith, R .memory-long, s .memory);
       store-long = omega (arith, R .store-long, s .store);
       few = rw (s .settings) (R .few);
-      bound = rw (s .settings) (R .bound);
       member = rw (s .settings, s .own) (R .member);
       view-first = a;
       view-last = b;

@@ -1,4 +1,4 @@
--- 01's ten results marked "proved" (01: Known results): every line of the table holds (`known-hold`). Assumes nothing.
+-- The known results of 01 and 02: every line of the table holds (`known-hold`). Assumes nothing.
 use Prim.Native.Nat.{ℕ, zero, suc, _+_, _^_, _≤_, _<_}
 use native.Mathlib.Omega.{arith}
 use mathlib.Core.Path.{_≡_, refl, sym, ap, _∙_}
@@ -12,7 +12,6 @@ use lib.ListN.{length}
 use Rattle.settings.specs.declared.Settings.{Settings}
 use Rattle.settings.specs.Answer.{Answer, accepts, refuses, Rule, _⇒_, judge}
 use Rattle.settings.specs.Quorum.{largest, replicas}
-use Rattle.settings.specs.Opening.{inBound, openingRules}
 use Rattle.codec.specs.Bytes.{IsBytes}
 use Rattle.codec.specs.Names.{sameBytes, lessBytes, zeroName}
 use Rattle.codec.proofs.Order.{same-refl, ne-same, less-irrefl, less-asym}
@@ -36,12 +35,14 @@ use Rattle.memory.specs.Leaders.{byList}
 use Rattle.protocol.specs.Work.{Work, n}
 use Rattle.protocol.specs.Typed.{BlockTyped}
 use Rattle.protocol.specs.Refusals.{outputLength, regionRules, refusals}
-use Rattle.protocol.specs.Calls.{Replica, begin, outcome, openingCore, openingCall, recordCore, recordCall}
+use Rattle.protocol.specs.Calls.{Replica, begin, outcome, openingCall, recordCore, recordCall}
+use Rattle.protocol.specs.Clusters.{Cluster}
 use Rattle.protocol.specs.OneCall.{left, Handing, HandingTyped, after}
 use Rattle.protocol.specs.Example.{six}
 use Rattle.protocol.specs.Known.{settings, timeouts, accepting, quorums, safeOrRefused, genesis, carries, sent, OfSix, Holds, none, votes, fourSigners, known}
 use Rattle.protocol.proofs.call.Typing.{zero-is-name}
 use Rattle.protocol.proofs.call.Opening.{Openable, opened-settings, opening-takes}
+use Rattle.protocol.proofs.call.Clusters.{nothing-else-opens}
 use Rattle.protocol.proofs.call.Regions.{judge-past, run-passes, run-settings}
 
 -- one fact after another
@@ -50,20 +51,16 @@ abbrev _also_ : {P Q : Type 0} → P → Q → P × Q
 p also q = (p, q)
 
 -- ---- settings that an opening accepts, and settings that it refuses by 1
-opens : (f c k : ℕ) → let s : Settings = record { f = f; c = c; k = k } in replicas s ≤ largest → inBound s ≡ true → Holds (settings f c k (replicas s) (accepts (quorums s)))
+opens : (f c k : ℕ) → let s : Settings = record { f = f; c = c; k = k } in replicas s ≤ largest → Holds (settings f c k (replicas s) (accepts (quorums s)))
 unfolding Holds openingCall outcome accepting
-opens f c k few bound r own leaders long many member list =
+opens f c k few r own leaders long many member list =
     let s : Settings = record { f = f; c = c; k = k } in
-    let o : Openable s own leaders = record { few = few; bound = bound; member = member; list = list } in
+    let o : Openable s own leaders = record { few = few; member = member; list = list } in
     rw (opening-takes r s own leaders o long many, opened-settings (r .memory) s own leaders o long)
 
-bound-refused : Holds (settings 2 0 1 8 (refuses 1))
-unfolding Holds openingCall openingCore openingRules outcome accepting judge
-bound-refused r own leaders long many member list = refl
-
-many-refused : Holds (settings 8 4 0 33 (refuses 1))
-unfolding Holds openingCall openingCore openingRules outcome accepting judge
-many-refused r own leaders long many member list = refl
+refused : (f c k n : ℕ) → (Cluster f c k n → ⊥) → Holds (settings f c k n (refuses 1))
+unfolding Holds accepting
+refused f c k n h r own leaders long many member list = rw (nothing-else-opens r f c k n own leaders h)
 
 -- ---- what a call's list says, whatever the call does
 judged : {B : Type 0} (r : Replica) (output : List ℕ) (rules : List Rule) (W : Work) (b : B) → accepting b (outcome r output (judge rules W) .reply) ≡ judge rules b
@@ -221,16 +218,17 @@ module _ (A B : List ℕ) (nameA : IsName A) (nameB : IsName B) (blockA : A ≡ 
   B-carried : (v : ℕ) → v ≤ 3 → Carriable (carries v B fourSigners)
   B-carried v h = record { kind = refl; view = h; name = nameB; signers = lit< tt }
 
-  -- THE TEN RESULTS
+  -- THE KNOWN RESULTS
   pub known-hold : All Holds (known A B)
   unfolding All Computes sent judge outranks carriedCertificate onesIn signerCount signersNeeded isGood timeoutGood all progressGood
       each better signs joins gives backedBy builtBy carriedBy safeOfTimeouts safeCertificate
   known-hold =
-      opens 1 1 0 (lit≤ tt) refl
-      also opens 2 2 2 (lit≤ tt) refl
-      also opens 7 5 0 (lit≤ tt) refl
-      also bound-refused
-      also many-refused
+      opens 1 1 0 (lit≤ tt)
+      also opens 2 2 2 (lit≤ tt)
+      also opens 7 5 0 (lit≤ tt)
+      also opens 2 0 1 (lit≤ tt)
+      also opens 1 2 2 (lit≤ tt)
+      also refused 8 4 0 33 (λ h. omega (arith, h .most))
       also line _ _ _ (A-voted also A-voted also B-voted also none-voted also tt) (lit≤ tt) carries-genesis (simp compared) (simp compared) (simp compared) (simp compared)
       also line _ _ _ (A-voted also A-voted also B-voted also B-voted also tt) (lit≤ tt) carries-genesis (simp compared) (simp compared) (simp compared) (simp compared)
       also line _ _ _ (A-voted also A-voted also B-voted also none-voted also tt) (lit≤ tt) (B-carried 3 (lit≤ tt)) (simp compared) (simp compared) (simp compared) (simp compared)

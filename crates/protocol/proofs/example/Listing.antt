@@ -80,7 +80,7 @@ module _ (m e : List ℕ) (b : IsBytes m) (long : memoryLength ≤ length m) (l 
 -- ---- the calls
 module _ (lent : Replica) (b : IsBytes (lent .memory)) (typed : All BlockTyped (lent .store)) (long : memoryLength ≤ length (lent .memory)) (many : storeLength ≤ length (lent .store)) where
   openable : Openable six 1 (inTurn 6)
-  openable = record { few = lit≤ tt; bound = refl; member = lit< tt; list = in-turn-good 6 (lit< tt) (lit≤ tt) }
+  openable = record { few = lit≤ tt; member = lit< tt; list = in-turn-good 6 (lit< tt) (lit≤ tt) }
 
   -- what the opening leaves
   abbrev m₀ : List ℕ

@@ -95,7 +95,7 @@ lent-typed = all-same storeLength
 
 openable : (i : ℕ) → i < 6 → Openable six i leaders
 unfolding hasFrom badLeaders leaders
-openable i h = record { few = lit≤ tt; bound = refl; member = h; list = refl }
+openable i h = record { few = lit≤ tt; member = h; list = refl }
 
 opened-is-regular : (i : ℕ) → i < 6 → RegularReplica (openedAs i)
 opened-is-regular i h = opened-regular lentMemory lentStore six i leaders (openable i h) lent-bytes lent-typed lent-long lent-many

@@ -27,14 +27,14 @@ returns-2 c = unfit (c .before .before) (λ h. omega arith)
 returns-3 : tie.Need-returns-3
 returns-3 c = unfit (c .before .before .before) (λ h. omega arith)
 
+cast-t8 : tie.Need-cast-t8
+cast-t8 c = search needs
+
 cast-t9 : tie.Need-cast-t9
 cast-t9 c = search needs
 
 cast-t10 : tie.Need-cast-t10
 cast-t10 c = search needs
-
-cast-t11 : tie.Need-cast-t11
-cast-t11 c = search needs
 
 n-requires : tie.Need-n-requires
 n-requires c κs = search needs
@@ -45,26 +45,11 @@ returns-4 c = unfit (c .before .before .before .before .before) (λ h. omega ari
 returns-5 : tie.Need-returns-5
 returns-5 c = unfit (c .before .before .before .before .before .before) (λ h. omega arith)
 
-sub-room : tie.Need-sub-room
-sub-room c = search needs
-
-mul-if6 : tie.Need-mul-if6
-mul-if6 c = search needs
-
-add-if6 : tie.Need-add-if6
-add-if6 c = search needs
-
-add-if6-2 : tie.Need-add-if6-2
-add-if6-2 c = search needs
-
 returns-6 : tie.Need-returns-6
 returns-6 c = unfit (c .before .before .before .before .before .before .before) (λ h. omega arith)
 
 returns-7 : tie.Need-returns-7
-returns-7 c = unfit (c .before .before .before .before .before .before .before .before) (λ h. omega arith)
-
-returns-8 : tie.Need-returns-8
-returns-8 c = fit (c .before .before .before .before .before .before .before .before) (record { count = search needs; few = search needs; bound = search needs; member = search needs })
+returns-7 c = fit (c .before .before .before .before .before .before .before) (record { count = search needs; few = search needs; member = search needs })
 
 pub admit-spec : {M : Type 1} → statement M
 admit-spec =
@@ -73,16 +58,11 @@ admit-spec =
     returns
     returns-2
     returns-3
+    cast-t8
     cast-t9
     cast-t10
-    cast-t11
     n-requires
     returns-4
     returns-5
-    sub-room
-    mul-if6
-    add-if6
-    add-if6-2
     returns-6
-    returns-7
-    returns-8)
+    returns-7)
