@@ -1,6 +1,7 @@
--- Runs and results of 01: a run that meets the premises of demand 3, the listing, the known results.
+-- Runs and results of 01 and 02: a run that meets the premises of demand 3, the listing, the known results, the cluster of one.
 pub mod Rows
 pub mod Applies
+pub mod FirstView
 pub mod Calls
 pub mod Proposal
 pub mod Certificate
@@ -9,3 +10,4 @@ pub mod Entries
 pub mod Premises
 pub mod Listing
 pub mod Known
+pub mod ClusterOfOne

@@ -13,3 +13,4 @@ pub mod OneChain
 pub mod Example
 pub mod Listing
 pub mod Known
+pub mod ClusterOfOne

@@ -1,39 +1,36 @@
--- Which rules apply in the cluster of six where only votes and commits of view 1 are kept, the votes all for one name: none of A and B; C below the lock, and
--- D with all six votes alone. Assumes nothing.
-use Prim.Native.Nat.{ℕ, zero, suc, _≤_, _<_}
+-- Which rules apply where only votes and commits of view 1 are kept, the votes all for one name, in any cluster: none of A and B; C with enough votes and no
+-- lock, D with enough votes for the one held block. Assumes nothing.
+use Prim.Native.Nat.{ℕ, _≤_, _<_}
 use native.Mathlib.Omega.{arith}
 use mathlib.Core.Path.{_≡_, refl, sym, ap, _∙_}
-use mathlib.Core.Bool.{Bool, true, false, _&&_, true≢false}
+use mathlib.Core.Bool.{Bool, true, false, cond, _&&_, true≢false, false≢true}
 use mathlib.Core.Logic.{inl, ⊎-elim}
-use mathlib.Core.List.{List}
-use borrow.Author.Tests.{leb-true, le-leb, eqb-true}
-use lib.Dec.{eqb, leb, lit≤}
-use Rattle.settings.specs.Quorum.{largest, replicas, blockQuorum, timeoutQuorum, slowQuorum, fastQuorum}
+use mathlib.Core.List.{List, [], _∷_}
+use borrow.Author.Tests.{eqb-true}
+use lib.Dec.{eqb, lit<, lit≤}
+use Rattle.settings.specs.declared.Settings.{Settings}
+use Rattle.settings.specs.Quorum.{largest, replicas, blockQuorum, slowQuorum, fastQuorum}
 use Rattle.codec.specs.Names.{nameLength, sameBytes}
-use Rattle.codec.proofs.Order.{and-true, same-refl, less-irrefl, ne-same, eq?}
+use Rattle.codec.proofs.Order.{and-true, same-refl, same-eq, less-irrefl, ne-same, eq?}
 use Rattle.certificate.specs.Rank.{blockCertificate, outranks}
-use Rattle.blocks.specs.Store.{descends}
+use Rattle.blocks.specs.declared.Block.{Block}
+use Rattle.blocks.specs.Store.{found, missing, find, held, descends}
 use Rattle.memory.specs.declared.kept.Tally.{Tally}
 use Rattle.memory.specs.Layout.{voteRow, commitRow, timeoutRow, settingsOf}
 use Rattle.memory.specs.Kept.{has, kept, keptCount, backs, tally}
-use Rattle.memory.specs.Window.{lowest, highest, inBallotWindow, inTimeoutWindow}
+use Rattle.memory.specs.Window.{inBallotWindow, inTimeoutWindow}
 use Rattle.memory.proofs.Bits.{counted, counted-same, counted-le}
 use Rattle.memory.proofs.Counting.{kept-counted, tally-counted, tally-kept, tally-none}
 use Rattle.counters.specs.Counters.{locksOf}
-use Rattle.protocol.specs.Work.{Work, settings, n, viewNow, tip, blocks, heldBlock}
-use Rattle.protocol.specs.Applies.{AppliesD, NoA, NoB, NoC, NoD, Turn, byD, runD, votesFor}
-use Rattle.protocol.specs.Example.{six}
+use Rattle.protocol.specs.Work.{Work, n, viewNow, tip, blocks, heldBlock}
+use Rattle.protocol.specs.Applies.{NoA, NoB, NoC, NoD, Turn, byC, byD, runC, runD, votesFor, signersFor}
+use Rattle.protocol.proofs.loop.Advance.{timeout-window, ballot-window, in-ballots, none-kept}
 use Rattle.protocol.proofs.example.Rows.{Rows}
 
 -- ---- how many there are
-counted-nobody : (n : ℕ) → counted (λ j. false) n ≡ 0
-unfolding counted
-counted-nobody zero = refl
-counted-nobody (suc n) = counted-nobody n
-
 module _ (x : List ℕ) (first : ℕ) (A C : ℕ → Bool) (m : List ℕ) (r : Rows x first A C m) (n : ℕ) (small : n ≤ largest) where
   no-timeouts : (v : ℕ) → first ≤ v → v ≤ 5 → keptCount m (timeoutRow v) n ≡ 0
-  no-timeouts v a b = kept-counted m (timeoutRow v) n (omega arith) ∙ counted-same (has m (timeoutRow v)) (λ j. false) n (λ j l. r .untimed v j a b) ∙ counted-nobody n
+  no-timeouts v a b = none-kept m (timeoutRow v) n small (λ j. r .untimed v j a b)
 
   under : (t : Bool) → (E : ℕ → Bool) (h : ℕ → Bool) → ((j : ℕ) → h j ≡ (t && E j)) → counted h n ≤ counted E n
   under t E h f = counted-le h E n (λ j l e. and-true t (E j) (sym (f j) ∙ e) .1)
@@ -75,93 +72,103 @@ module _ (x : List ℕ) (first : ℕ) (A C : ℕ → Bool) (m : List ℕ) (r : R
       by-view true e = by-name (eqb-true v 1 e) (eq? x y)
       by-view false e = absurd (none (λ j l. rw (r .voted v j a b, e)))
 
--- ---- a replica of the six, in view 1 or 2
-pub record Facts (x : List ℕ) (first : ℕ) (A C : ℕ → Bool) (W : Work) : Type 0 where
-  pub settings : settingsOf (W .memory) ≡ six
+-- ---- what is held above the tip, where one block or none is held beside it
+module _ (W : Work) where
+  only-held : (b : Block) → blocks W ≡ b ∷ [] → (y : List ℕ) → heldBlock W y .is ≡ true → tip W .height .0 < heldBlock W y .block .height .0 → b .name ≡ y
+  unfolding held find
+  only-held b one y is above = go (sameBytes (tip W .name) y) (sameBytes (b .name) y) refl (rw one at is) (rw one at above)
+    where
+      go : (s t : Bool) → sameBytes (b .name) y ≡ t → cond s (found (tip W)) (cond t (found b) missing) .is ≡ true
+          → tip W .height .0 < cond s (found (tip W)) (cond t (found b) missing) .block .height .0 → b .name ≡ y
+      go true t e i a = absurd (omega arith)
+      go false true e i a = same-eq (b .name) y e
+      go false false e i a = absurd (false≢true i)
+
+  pub no-D-none : blocks W ≡ [] → NoD W
+  unfolding held find
+  no-D-none none w y a = go (sameBytes (tip W .name) y) (rw none at (a .isHeld)) (rw none at (a .aboveTip))
+    where
+      go : (s : Bool) → cond s (found (tip W)) missing .is ≡ true → tip W .height .0 < cond s (found (tip W)) missing .block .height .0 → ⊥
+      go true i a = omega arith
+      go false i a = false≢true i
+
+-- ---- a replica of a cluster, in view 1 or 2
+pub record Facts (set : Settings) (x : List ℕ) (first : ℕ) (A C : ℕ → Bool) (W : Work) : Type 0 where
+  pub settings : settingsOf (W .memory) ≡ set
+  pub small : replicas set ≤ largest
   pub view : viewNow W ≡ first
   pub low : 1 ≤ first
   pub high : first ≤ 2
   pub rows : Rows x first A C (W .memory)
 
-module _ (x : List ℕ) (first : ℕ) (A C : ℕ → Bool) (W : Work) (F : Facts x first A C W) where
-  n-is : n W ≡ 6
+module _ {set : Settings} {x : List ℕ} {first : ℕ} {A C : ℕ → Bool} {W : Work} (F : Facts set x first A C W) where
+  n-is : n W ≡ replicas set
   n-is = ap replicas (F .settings)
 
-  timeout-window : (w : ℕ) → inTimeoutWindow (viewNow W) w ≡ true → (first ≤ w) × (w ≤ 5)
-  unfolding inTimeoutWindow
-  timeout-window w e =
-      let p = and-true (leb (viewNow W) w) (leb w (highest (viewNow W))) e in
-      (omega (arith, leb-true (viewNow W) w (p .0), F .view), omega (arith, leb-true w (highest (viewNow W)) (p .1), F .view, F .high))
+  n-small : n W ≤ largest
+  n-small = omega (arith, n-is, F .small)
 
-  ballot-window : (w : ℕ) → inBallotWindow (viewNow W) w ≡ true → (1 ≤ w) × (w ≤ 5)
-  unfolding inBallotWindow
-  ballot-window w e =
-      let p = and-true (leb (lowest (viewNow W)) w) (leb w (highest (viewNow W))) e in
-      (omega (arith, leb-true (lowest (viewNow W)) w (p .0)), omega (arith, leb-true w (highest (viewNow W)) (p .1), F .view, F .high))
+  timeouts-in : (w : ℕ) → inTimeoutWindow (viewNow W) w ≡ true → (first ≤ w) × (w ≤ 5)
+  timeouts-in w e = let i = timeout-window (viewNow W) w e in (omega (arith, i .from, F .view), omega (arith, i .to, F .view, F .high))
+
+  ballots-in : (w : ℕ) → inBallotWindow (viewNow W) w ≡ true → (1 ≤ w) × (w ≤ 5)
+  ballots-in w e = let i = ballot-window (viewNow W) w e in (omega (arith, i .from), omega (arith, i .to, F .view, F .high))
 
   pub no-A : NoA W
-  no-A w a = let l = timeout-window w (a .window) in omega (arith, a .enough, no-timeouts x first A C (W .memory) (F .rows) (n W) (omega (arith, n-is)) w (l .0) (l .1))
+  no-A w a = let l = timeouts-in w (a .window) in omega (arith, a .enough, no-timeouts x first A C (W .memory) (F .rows) (n W) n-small w (l .0) (l .1))
 
   pub no-B : NoB W
-  no-B w a =
-      let l = timeout-window w (a .window) in
-      omega (arith, a .enough, ap timeoutQuorum (F .settings), no-timeouts x first A C (W .memory) (F .rows) (n W) (omega (arith, n-is)) w (l .0) (l .1))
+  no-B w a = let l = timeouts-in w (a .window) in omega (arith, a .enough, no-timeouts x first A C (W .memory) (F .rows) (n W) n-small w (l .0) (l .1))
 
   -- enough votes for a name are votes of view 1 for x
   enough-votes : (w : ℕ) (y : List ℕ) → inBallotWindow (viewNow W) w ≡ true → 0 < votesFor w W y → (w ≡ 1) × (x ≡ y)
-  enough-votes w y e p = let l = ballot-window w e in votes-name x first A C (W .memory) (F .rows) (n W) (omega (arith, n-is)) w y (l .0) (l .1) p
+  enough-votes w y e p = let l = ballots-in w e in votes-name x first A C (W .memory) (F .rows) (n W) n-small w y (l .0) (l .1) p
+
+  all-votes : votesFor 1 W x ≡ counted A (replicas set)
+  all-votes = votes-all x first A C (W .memory) (F .rows) (n W) n-small ∙ ap (counted A) n-is
+
+  in-window : inBallotWindow (viewNow W) 1 ≡ true
+  in-window = in-ballots (viewNow W) 1 (record { from = omega (arith, F .view, F .high); to = omega (arith, F .view); below = lit< tt })
 
   -- too few votes
-  pub no-C-few : counted A 6 ≤ 3 → NoC W
+  pub no-C-few : counted A (replicas set) < blockQuorum set → NoC W
   no-C-few h w y a =
-      let l = ballot-window w (a .window) in
-      let k = votes-few x first A C (W .memory) (F .rows) (n W) (omega (arith, n-is)) w y (l .0) (l .1) in
+      let l = ballots-in w (a .window) in
+      let k = votes-few x first A C (W .memory) (F .rows) (n W) n-small w y (l .0) (l .1) in
       omega (arith, a .enough, ap blockQuorum (F .settings), k, ap (counted A) n-is)
 
   -- a lock on x in view 1
   pub no-C-locked : (g : ℕ) → locksOf (W .counters) .lock ≡ blockCertificate 1 x g → NoC W
   unfolding outranks
   no-C-locked g e w y a =
-      let (v, z) = enough-votes w y (a .window) (omega (arith, a .enough, ap blockQuorum (F .settings))) in
+      let (v, z) = enough-votes w y (a .window) (omega (arith, a .enough)) in
       true≢false (sym (a .higher) ∙ rw (e, v, ← z) (less-irrefl x))
 
-  -- enough for a release
-  decides : counted C 6 ≤ 3 → (w : ℕ) (y : List ℕ) → AppliesD w y W → fastQuorum (settings W) ≤ votesFor w W y
-  decides h w y a =
-      let l = ballot-window w (a .window) in
-      let k = commits-few x first A C (W .memory) (F .rows) (n W) (omega (arith, n-is)) w y (l .0) (l .1) in
-      ⊎-elim (λ p. p) (λ p. absurd (omega (arith, p, ap slowQuorum (F .settings), k, ap (counted C) n-is))) (a .enough)
+  -- enough voted for x, above the lock
+  pub turn-C : blockQuorum set ≤ counted A (replicas set) → outranks (blockCertificate 1 x (signersFor 1 W x)) (locksOf (W .counters) .lock) ≡ true → Turn W (runC 1 x W)
+  turn-C h o =
+      byC 1 x no-A no-B
+      (record {
+        here = record { window = in-window; enough = omega (arith, h, ap blockQuorum (F .settings), all-votes); higher = o };
+        noLower = λ v y l a. omega (arith, ballots-in v (a .window), l);
+        noSmaller = λ y l a. true≢false (sym l ∙ rw (← (enough-votes 1 y (a .window) (omega (arith, a .enough)) .1)) (less-irrefl x));
+      })
 
-  pub no-D-few : counted A 6 ≤ 5 → counted C 6 ≤ 3 → NoD W
+  -- too few votes and commits
+  pub no-D-few : counted A (replicas set) < fastQuorum set → counted C (replicas set) < slowQuorum set → NoD W
   no-D-few h hc w y a =
-      let l = ballot-window w (a .window) in
-      let k = votes-few x first A C (W .memory) (F .rows) (n W) (omega (arith, n-is)) w y (l .0) (l .1) in
-      omega (arith, decides hc w y a, ap fastQuorum (F .settings), k, ap (counted A) n-is)
+      let l = ballots-in w (a .window) in
+      let v = votes-few x first A C (W .memory) (F .rows) (n W) n-small w y (l .0) (l .1) in
+      let c = commits-few x first A C (W .memory) (F .rows) (n W) n-small w y (l .0) (l .1) in
+      ⊎-elim (λ p. omega (arith, h, p, ap fastQuorum (F .settings), v, ap (counted A) n-is)) (λ p. omega (arith, hc, p, ap slowQuorum (F .settings), c, ap (counted C) n-is)) (a .enough)
 
-  D-name : counted C 6 ≤ 3 → (w : ℕ) (y : List ℕ) → AppliesD w y W → (w ≡ 1) × (x ≡ y)
-  D-name hc w y a = enough-votes w y (a .window) (omega (arith, decides hc w y a, ap fastQuorum (F .settings)))
-
-  -- x is not above the tip
-  pub no-D-tip : counted C 6 ≤ 3 → heldBlock W x .block .height .0 ≤ tip W .height .0 → NoD W
-  no-D-tip hc h w y a = let (v, z) = D-name hc w y a in omega (arith, a .aboveTip, ap (λ (k : List ℕ). heldBlock W k .block .height .0) z)
-
-  in-window : inBallotWindow (viewNow W) 1 ≡ true
-  unfolding inBallotWindow
-  in-window = rw (le-leb (lowest (viewNow W)) 1 (omega (arith, F .view, F .high)), le-leb 1 (highest (viewNow W)) (omega (arith, F .view)))
-
-  -- all six voted for x, which is held above the tip
-  pub turn-D : NoC W → counted A 6 ≡ 6 → counted C 6 ≤ 3 → heldBlock W x .is ≡ true → tip W .height .0 < heldBlock W x .block .height .0
+  -- enough voted for x, the one block that is held beside the tip
+  pub turn-D : NoC W → fastQuorum set ≤ counted A (replicas set) → (b : Block) → blocks W ≡ b ∷ [] → heldBlock W x .is ≡ true → tip W .height .0 < heldBlock W x .block .height .0
       → descends (tip W) (blocks W) (heldBlock W x .block) ≡ true → Turn W (runD 1 x W)
-  turn-D c h hc is above down =
+  turn-D c h b one is above down =
       byD 1 x no-A no-B c
       (record {
-        here = record {
-          window = in-window;
-          enough = inl (omega (arith, ap fastQuorum (F .settings), votes-all x first A C (W .memory) (F .rows) (n W) (omega (arith, n-is)), ap (counted A) n-is));
-          isHeld = is;
-          aboveTip = above;
-          leadsDown = down;
-        };
-        noLower = λ v y l a. omega (arith, ballot-window v (a .window), l);
-        noSmaller = λ y l a. true≢false (sym l ∙ rw (← (D-name hc 1 y a .1)) (less-irrefl x));
+        here = record { window = in-window; enough = inl (omega (arith, h, ap fastQuorum (F .settings), all-votes)); isHeld = is; aboveTip = above; leadsDown = down };
+        noLower = λ v y l a. omega (arith, ballots-in v (a .window), l);
+        noSmaller = λ y l a. true≢false (sym l ∙ rw (← (only-held W b one y (a .isHeld) (a .aboveTip)), only-held W b one x is above) (less-irrefl x));
       })

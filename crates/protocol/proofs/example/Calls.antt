@@ -52,16 +52,20 @@ pub record Took (r : Replica) (bytes : List ℕ) (made : List (List ℕ)) (s : R
 abbrev pub replicaOf : Work → Replica
 replicaOf W = record { counters = W .counters; memory = W .memory; store = W .store }
 
+-- what an accepted call wrote
+pub written-out : (r : Replica) (output : List ℕ) (W : Work) → written (outcome r output (accepts W)) ≡ W .out
+unfolding outcome written
+written-out r output W = take-append-seam (W .out) (drop (length (W .out)) output)
+
 took : (r : Replica) (bytes : List ℕ) (made : List (List ℕ)) (W : Work) → recordCore byList r (length lentOutput) bytes ≡ accepts W → All Framed made → W .out ≡ joined made → Took r bytes made (replicaOf W)
-unfolding outcomeOf recordCall outcome written makes
+unfolding outcomeOf recordCall outcome makes
 took r bytes made W e f o =
-    let whole : take (length (W .out)) (W .out ++ drop (length (W .out)) lentOutput) ≡ W .out = take-append-seam (W .out) (drop (length (W .out)) lentOutput) in
     let cut : cutRecords (length (W .out)) (W .out) ≡ made = ap (λ (s : List ℕ). cutRecords (length s) s) o ∙ cut-joined made f (length (joined made)) (omega arith) in
     let is : outcomeOf r (handed bytes) ≡ outcome r lentOutput (accepts W) = ap (outcome r lentOutput) e in
     record {
       accepts = ap (λ (x : Outcome). accepted (x .reply)) is;
       leaves = ap left is;
-      makes = ap (λ (x : Outcome). cutRecords (length (written x)) (written x)) is ∙ ap (λ (s : List ℕ). cutRecords (length s) s) whole ∙ cut;
+      makes = ap (λ (x : Outcome). cutRecords (length (written x)) (written x)) is ∙ ap (λ (s : List ℕ). cutRecords (length s) s) (written-out r lentOutput W) ∙ cut;
     }
 
 -- ---- a record that fits, that is as the place "shape" asks, and that no rule refuses

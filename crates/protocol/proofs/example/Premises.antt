@@ -132,7 +132,7 @@ rowWith (is-timeout t) l = l
 rowWith (is-release x h) l = (x, h) ∷ l
 rowWith is-other l = l
 
-row-with : (c : Content) → Fits c → (l : List (List ℕ)) → rowIn reads (encode c ∷ l) ≡ rowWith (readOf c) (rowIn reads l)
+pub row-with : (c : Content) → Fits c → (l : List (List ℕ)) → rowIn reads (encode c ∷ l) ≡ rowWith (readOf c) (rowIn reads l)
 row-with c f l = go (readOf c) (ap readOf (read-written c f))
   where
     go : (a : Read (List ℕ)) → reads (encode c) ≡ a → rowIn reads (encode c ∷ l) ≡ rowWith a (rowIn reads l)

@@ -10,7 +10,7 @@ use lib.Dec.{leb, lit<, lit≤}
 use lib.ListN.{length, take, set, replicate, length-replicate}
 use Rattle.settings.specs.Opening.{hasFrom, badLeaders}
 use Rattle.codec.specs.Bytes.{IsBytes}
-use Rattle.codec.specs.Names.{nameLength, sameBytes, zeroName, lessBytes}
+use Rattle.codec.specs.Names.{nameLength, sameBytes, zeroName}
 use Rattle.codec.proofs.Order.{same-ne}
 use Rattle.wire.specs.Fields.{progressOf}
 use Rattle.wire.specs.Content.{Certificate, byBlock, certificateOf, Content, proposal}
@@ -19,24 +19,20 @@ use Rattle.wire.specs.Fit.{IsName, All, CertificateFits, Fits, CertificatePrope
 use Rattle.wire.proofs.Tables.{stands-encode}
 use Rattle.wire.proofs.Contents.{certificate-back}
 use Rattle.wire.proofs.Facts.{Quiet}
-use Rattle.certificate.specs.Rank.{outranks, adopted}
 use Rattle.certificate.specs.Good.{isGood, progressGood}
 use Rattle.certificate.specs.Safe.{safeCertificate}
 use Rattle.blocks.specs.declared.Block.{Block}
 use Rattle.blocks.specs.Store.{genesis, find, held}
-use Rattle.memory.specs.Layout.{memoryLength, voteRow, settingsOf, ownOf, blockCountOf, withBlockCount, leadersOf}
-use Rattle.memory.specs.Kept.{keep}
+use Rattle.memory.specs.Layout.{memoryLength, settingsOf, ownOf, blockCountOf, leadersOf}
 use Rattle.memory.specs.Leaders.{entryFor, byList}
-use Rattle.memory.proofs.Apart.{votes, rowOf, sizeOf, row-head}
 use Rattle.memory.proofs.Bits.{counted, counted-one}
 use Rattle.memory.proofs.Clearing.{bytes-zero}
-use Rattle.memory.proofs.Header.{same-header, keep-head, length-with-count, bytes-with-count, count-put, count-own, count-behind}
 use Rattle.counters.specs.declared.Counters.{Counters}
-use Rattle.counters.specs.Counters.{opened, certificateOf as certificateFrom, signedOf, locksOf, withLocks, adopting, voting}
-use Rattle.protocol.specs.Work.{Work, view, n, adopt, hold, keepVote, sendVote}
+use Rattle.counters.specs.Counters.{opened, voting}
+use Rattle.protocol.specs.Work.{Work, n}
 use Rattle.protocol.specs.Typed.{BlockTyped}
 use Rattle.protocol.specs.Refusals.{storeLength, noRoom, refusals}
-use Rattle.protocol.specs.Events.{propositionOf, onRecord}
+use Rattle.protocol.specs.Events.{onRecord}
 use Rattle.protocol.specs.Applies.{Done, Turns, rest}
 use Rattle.protocol.specs.Calls.{Replica, begin}
 use Rattle.protocol.specs.OneChain.{Opened}
@@ -46,8 +42,9 @@ use Rattle.protocol.proofs.call.Opening.{Openable, openedWork, opened-s
 use Rattle.protocol.proofs.call.Regular.{Regular, Still}
 use Rattle.protocol.proofs.call.OneCall.{RegularReplica, begin-regular}
 use Rattle.protocol.proofs.chain.Records.{vote-framed}
-use Rattle.protocol.proofs.example.Rows.{Rows, nobody, and-also, and-false, rows-none, rows-same, rows-vote}
+use Rattle.protocol.proofs.example.Rows.{Rows, nobody, and-also, and-false, rows-none}
 use Rattle.protocol.proofs.example.Applies.{Facts, no-A, no-B, no-C-few, no-D-few}
+use Rattle.protocol.proofs.example.FirstView.{Acting, onGenesis, votedFor, voted, takes-proposal, rows-voted, count-voted, held-voted}
 use Rattle.protocol.proofs.example.Calls.{Took, replicaOf, event-done, call-takes, State, Step, step}
 
 -- ---- the block and its name
@@ -69,7 +66,7 @@ unfolding blockName sameBytes
 zero-not-name = refl
 
 abbrev pub theBlock : Block
-theBlock = record { name = blockName; parent = zeroName; height = record { 0 = 1 } }
+theBlock = onGenesis blockName
 
 -- ---- the regions that are lent, and the openings
 lent-long : memoryLength ≤ length lentMemory
@@ -125,7 +122,7 @@ opened-state i h =
       listed = opened-leaders lentMemory six i leaders o lent-long;
       count = opened-count lentMemory six i leaders o lent-long;
       blocks = refl;
-      rows = rows-none blockName (openedAs i .memory) (opened-none lentMemory six i leaders o lent-long);
+      rows = rows-none blockName (openedAs i .memory) 1 (lit≤ tt) (λ t v j a b. opened-none lentMemory six i leaders o lent-long t v j);
     }
 
 -- ---- the proposal
@@ -155,13 +152,9 @@ one-vote : (i : ℕ) → i < 6 → counted (and-also i nobody) 6 ≡ 1
 unfolding counted
 one-vote i h = counted-one nobody (and-also i nobody) i 6 h refl (rw (eq-eqb i i refl)) (λ j l d. rw (ne-eqb j i d))
 
-first-set : (st : List Block) (b : Block) → 1 ≤ length st → take 1 (set st 0 b) ≡ b ∷ []
-first-set [] b h = absurd (omega arith)
-first-set (a ∷ st) b h = refl
-
 -- the counters after the vote
-unfoldable pub afterVote : Counters
-afterVote = voting opened (record { view = view 1; name = blockName })
+abbrev pub afterVote : Counters
+afterVote = votedFor blockName
 
 module _ (i : ℕ) (low : 1 ≤ i) (high : i < 6) (m : List ℕ) (st : List Block) (settings : settingsOf m ≡ six) (own : ownOf m ≡ i) (listed : leadersOf m ≡ leaders) (count : blockCountOf m ≡ 0)
     (R : RegularReplica (record { counters = opened; memory = m; store = st })) where
@@ -185,22 +178,19 @@ module _ (i : ℕ) (low : 1 ≤ i) (high : i < 6) (m : List ℕ) (st : List Bloc
   not-refused =
       (rw (settings, own, ne-eqb 0 i (omega arith), first-leads), (refl, (refl, (refl, (refl, (rw (zero-not-name, count), (refl, (refl, (has-room, tt)))))))))
 
-  with : List ℕ
-  with = keep (withBlockCount m 1) (voteRow 1) nameLength i blockName
+  abbrev after : Work
+  after = voted blockName i (begin before)
 
-  after : Work
-  after = record { counters = afterVote; memory = with; store = set st 0 theBlock; out = voteOf i }
+  acting : Acting blockName i (begin before)
+  acting = record { name = name-is; member = omega arith; regular = R; own = own }
 
   event : onRecord (encode proposed) proposed (begin before) ≡ after
-  unfolding onRecord propositionOf adopt hold sendVote keepVote after with opened afterVote voting adopting withLocks adopted outranks locksOf certificateFrom signedOf safeCertificate held find lessBytes
-  event = rw (its-certificate, count, zero-not-name, count-own m 1, own)
+  unfolding onRecord
+  event = takes-proposal acting (progressOf (encode proposed)) refl count zero-not-name its-certificate
 
   module _ (rows : Rows blockName 1 nobody nobody m) where
-    rows-after : Rows blockName 1 (and-also i nobody) nobody with
-    unfolding with
-    rows-after =
-        rows-vote blockName 1 nobody nobody (withBlockCount m 1) i (bytes-with-count m 1 (R .typed .memory)) (omega (arith, length-with-count m 1, R .memory-long)) (name-is .size) (omega arith)
-        (rows-same blockName 1 nobody nobody m (withBlockCount m 1) (λ t v. count-behind m 1 (rowOf t v) (sizeOf t) (omega (arith, row-head t v))) rows) refl
+    rows-after : Rows blockName 1 (and-also i nobody) nobody (after .memory)
+    rows-after = rows-voted acting rows
 
     regular-after : Regular after
     regular-after = subst Regular event (event-done before R proposed proposal-fits is-proper not-refused .regular)
@@ -208,42 +198,35 @@ module _ (i : ℕ) (low : 1 ≤ i) (high : i < 6) (m : List ℕ) (st : List Bloc
     still : Still (begin before) after
     still = subst (Still (begin before)) event (event-done before R proposed proposal-fits is-proper not-refused .still)
 
-    facts : Facts blockName 1 (and-also i nobody) nobody after
-    unfolding after afterVote voting opened
-    facts = record { settings = still .settings ∙ settings; view = refl; low = lit≤ tt; high = lit≤ tt; rows = rows-after }
+    facts : Facts six blockName 1 (and-also i nobody) nobody after
+    unfolding votedFor voting opened
+    facts = record { settings = still .settings ∙ settings; small = lit≤ tt; view = refl; low = lit≤ tt; high = lit≤ tt; rows = rows-after }
 
     done : Done after
     unfolding counted
     done =
         let one = one-vote i high in
-        record {
-          noA = no-A blockName 1 (and-also i nobody) nobody after facts;
-          noB = no-B blockName 1 (and-also i nobody) nobody after facts;
-          noC = no-C-few blockName 1 (and-also i nobody) nobody after facts (omega arith);
-          noD = no-D-few blockName 1 (and-also i nobody) nobody after facts (omega arith) (lit≤ tt);
-        }
+        record { noA = no-A facts; noB = no-B facts; noC = no-C-few facts (omega arith); noD = no-D-few facts (omega arith) (lit< tt) }
 
     takes : Took before theProposal (voteOf i ∷ []) (replicaOf after)
-    unfolding after joined All
+    unfolding joined All
     takes =
         rw proposal-is at
         (call-takes before R proposed proposal-fits is-proper not-refused after (subst (λ (W : Work). Turns W after) (sym event) rest) done (voteOf i ∷ [])
         (vote-framed 1 i 1 blockName (name-is .size), tt) (sym (append-nil (voteOf i))))
 
     state-after : State i afterVote 1 (theBlock ∷ []) 1 (and-also i nobody) nobody (replicaOf after)
-    unfolding after with
     state-after =
         record {
-          memory = with;
+          memory = after .memory;
           store = set st 0 theBlock;
           is = refl;
           regular = begin-regular after regular-after;
           settings = still .settings ∙ settings;
           own = still .own ∙ own;
           listed = still .leaders .list ∙ listed;
-          count = same-header (withBlockCount m 1) with (keep-head (withBlockCount m 1) votes 1 i blockName (name-is .size) (omega arith)) .blockCount
-              ∙ count-put m 1 (lit< tt) (omega (arith, R .memory-long));
-          blocks = first-set st theBlock (omega (arith, R .store-long));
+          count = count-voted acting;
+          blocks = held-voted acting;
           rows = rows-after;
         }
 

@@ -19,7 +19,7 @@ use Rattle.memory.specs.Window.{entered}
 use Rattle.memory.proofs.Apart.{Table, votes, commits, timeouts, rowOf, sizeOf, widthOf, rowsOf, row-fits, rows-apart}
 use Rattle.memory.proofs.Clearing.{has-same, kept-same}
 use Rattle.memory.proofs.Keeping.{keep-apart, has-keep, has-keep-other, kept-keep, kept-keep-other}
-use Rattle.memory.proofs.Entering.{tag, entered-kept, entered-none}
+use Rattle.memory.proofs.Entering.{tag, firstOf, entered-kept, entered-none}
 
 -- nobody; one replica more
 abbrev pub nobody : ℕ → Bool
@@ -39,14 +39,14 @@ pub and-false : (t : Bool) → (t && false) ≡ false
 and-false true = refl
 and-false false = refl
 
--- no entry anywhere
-pub rows-none : (x m : List ℕ) → ((t : Table) (v j : ℕ) → has m (rowOf t v) j ≡ false) → Rows x 1 nobody nobody m
-rows-none x m h =
+-- no entry in the rows of these views
+pub rows-none : (x m : List ℕ) (first : ℕ) → first ≤ 2 → ((t : Table) (v j : ℕ) → firstOf t first ≤ v → v ≤ 5 → has m (rowOf t v) j ≡ false) → Rows x first nobody nobody m
+rows-none x m first l h =
     record {
-      voted = λ v j a b. h votes v j ∙ sym (and-false (eqb v 1));
-      named = λ j l e. absurd (false≢true e);
-      committed = λ v j a b. h commits v j ∙ sym (and-false (eqb v 1));
-      untimed = λ v j a b. h timeouts v j;
+      voted = λ v j a b. h votes v j (omega arith) b ∙ sym (and-false (eqb v 1));
+      named = λ j k e. absurd (false≢true e);
+      committed = λ v j a b. h commits v j (omega arith) b ∙ sym (and-false (eqb v 1));
+      untimed = λ v j a b. h timeouts v j a b;
     }
 
 -- the same bytes in every row

@@ -7,34 +7,32 @@ use mathlib.Core.Bool.{Bool, false}
 use mathlib.Core.List.{List, [], _∷_}
 use borrow.Author.Tests.{lt-leb, ne-eqb}
 use lib.Dec.{lit<, lit≤}
-use lib.ListN.{length, take}
-use Rattle.codec.specs.Names.{nameLength, sameBytes, zeroName}
-use Rattle.codec.proofs.Order.{same-ne, same-refl}
+use lib.ListN.{take}
+use Rattle.codec.specs.Names.{nameLength, zeroName}
+use Rattle.codec.proofs.Order.{same-ne}
 use Rattle.wire.specs.Content.{Content, vote}
 use Rattle.wire.specs.Encode.{releaseBytes, encode, joined}
 use Rattle.wire.specs.Fit.{All, Fits, Proper}
 use Rattle.wire.proofs.Facts.{Quiet}
 use Rattle.blocks.specs.declared.Block.{Block}
-use Rattle.blocks.specs.declared.Found.{Found}
-use Rattle.blocks.specs.Store.{genesis, found, find, held, leads, descends, line, ancestry, releases, kept}
-use Rattle.memory.specs.Layout.{voteRow, settingsOf, ownOf, blockCountOf, withBlockCount, leadersOf}
+use Rattle.memory.specs.Layout.{voteRow, settingsOf, ownOf, blockCountOf, leadersOf}
 use Rattle.memory.specs.Kept.{has, keep}
-use Rattle.memory.proofs.Apart.{votes, rowOf, sizeOf, row-head}
+use Rattle.memory.proofs.Apart.{votes}
 use Rattle.memory.proofs.Bits.{counted}
-use Rattle.memory.proofs.Header.{same-header, keep-head, count-settings, count-behind}
-use Rattle.counters.specs.Counters.{certificateOf as certificateFrom, locksOf, releasing}
+use Rattle.memory.proofs.Header.{same-header, keep-head}
 use Rattle.memory.specs.Leaders.{byList}
-use Rattle.protocol.specs.Work.{Work, n, own, blocks, heldBlock, keepVote, release}
+use Rattle.protocol.specs.Work.{Work, n, blocks, keepVote}
 use Rattle.protocol.specs.Refusals.{refusals}
 use Rattle.protocol.specs.Events.{onRecord}
-use Rattle.protocol.specs.Applies.{Done, Turns, turn, rest, runD, NoC}
+use Rattle.protocol.specs.Applies.{Done, Turns, turn, rest, runD}
 use Rattle.protocol.specs.Calls.{Replica, begin}
 use Rattle.protocol.specs.Example.{six, blockName, voteOf, leaders}
 use Rattle.protocol.proofs.call.Regular.{Regular, Still}
 use Rattle.protocol.proofs.call.OneCall.{RegularReplica, begin-regular}
 use Rattle.protocol.proofs.chain.Records.{release-framed}
-use Rattle.protocol.proofs.example.Rows.{Rows, and-also, rows-same, rows-vote}
-use Rattle.protocol.proofs.example.Applies.{Facts, no-A, no-B, no-C-locked, no-D-few, no-D-tip, turn-D}
+use Rattle.protocol.proofs.example.Rows.{Rows, and-also, rows-vote}
+use Rattle.protocol.proofs.example.Applies.{Facts, no-A, no-B, no-D-few}
+use Rattle.protocol.proofs.example.FirstView.{Holding, lockedOn, locked-no-C, release-turn, released-out, released-done}
 use Rattle.protocol.proofs.example.Calls.{Took, replicaOf, event-done, call-takes, State, Step, step}
 use Rattle.protocol.proofs.example.Proposal.{name-is, name-not-zero, zero-not-name, theBlock}
 use Rattle.protocol.proofs.example.Certificate.{afterCertificate, oneself}
@@ -64,7 +62,7 @@ module _ (j : ℕ) (low : j < 6) (other : j ≡ 1 → ⊥) (A : ℕ → Bool) (n
   none = rows .voted 1 j (lit≤ tt) (lit≤ tt) ∙ new
 
   not-refused : Quiet (refusals (begin before) byList (encode its) its)
-  unfolding refusals afterCertificate
+  unfolding refusals lockedOn
   not-refused = (rw (settings, is-one, lt-leb 6 j low, ne-eqb j 1 other), (refl, (refl, (rw none, (none, tt)))))
 
   with : List ℕ
@@ -87,28 +85,32 @@ module _ (j : ℕ) (low : j < 6) (other : j ≡ 1 → ⊥) (A : ℕ → Bool) (n
   unfolding with
   rows-after = rows-vote blockName 2 A oneself m j (R .typed .memory) (R .memory-long) (name-is .size) (omega arith) rows new
 
-  facts : Facts blockName 2 (and-also j A) oneself after
-  unfolding after afterCertificate
-  facts = record { settings = still .settings ∙ settings; view = refl; low = lit≤ tt; high = lit≤ tt; rows = rows-after }
-
-  locked : NoC after
-  unfolding after afterCertificate locksOf certificateFrom
-  locked = no-C-locked blockName 2 (and-also j A) oneself after facts 60 refl
+  facts : Facts six blockName 2 (and-also j A) oneself after
+  unfolding after lockedOn
+  facts = record { settings = still .settings ∙ settings; small = lit≤ tt; view = refl; low = lit≤ tt; high = lit≤ tt; rows = rows-after }
 
   count-after : blockCountOf with ≡ 1
   unfolding with
   count-after = same-header m with (keep-head m votes 1 j blockName (name-is .size) (omega arith)) .blockCount ∙ count
 
+  blocks-are : blocks after ≡ theBlock ∷ []
+  unfolding after
+  blocks-are = ap (λ (k : ℕ). take k st) count-after ∙ held-ones
+
+  holding : Holding blockName 60 after
+  unfolding after
+  holding = record { not-zero = name-not-zero; zero-not = zero-not-name; regular = regular-after; counters = refl; held = blocks-are }
+
   -- ---- a vote is missing still
   module _ (few : counted (and-also j A) 6 ≤ 5) where
     done : Done after
-    unfolding counted
+    unfolding counted after
     done =
         record {
-          noA = no-A blockName 2 (and-also j A) oneself after facts;
-          noB = no-B blockName 2 (and-also j A) oneself after facts;
-          noC = locked;
-          noD = no-D-few blockName 2 (and-also j A) oneself after facts few (lit≤ tt);
+          noA = no-A facts;
+          noB = no-B facts;
+          noC = locked-no-C holding facts;
+          noD = no-D-few facts (omega arith) (lit< tt);
         }
 
     takes : Took before (voteOf j) [] (replicaOf after)
@@ -133,48 +135,20 @@ module _ (j : ℕ) (low : j < 6) (other : j ≡ 1 → ⊥) (A : ℕ → Bool) (n
 
   -- ---- all six voted
   module _ (all : counted (and-also j A) 6 ≡ 6) where
-    blocks-are : blocks after ≡ theBlock ∷ []
-    unfolding after
-    blocks-are = ap (λ (k : ℕ). take k st) count-after ∙ held-ones
-
-    found-it : heldBlock after blockName ≡ found theBlock
-    unfolding after held find afterCertificate
-    found-it = ap (λ (l : List Block). held genesis l blockName) blocks-are ∙ rw (zero-not-name, same-refl blockName)
-
     end : Work
     end = runD 1 blockName after
 
     turns : Turns after end
-    unfolding end after afterCertificate descends leads sameBytes counted
-    turns =
-        turn (turn-D blockName 2 (and-also j A) oneself after facts locked all (lit≤ tt) (ap (λ (x : Found). x .is) found-it) (rw found-it (lit< tt)) (rw found-it)) rest
+    unfolding end after
+    turns = turn (release-turn holding facts (omega arith)) rest
 
-    -- its releases, its locks, its rows and its tip
     writes : end .out ≡ joined (released ∷ [])
-    unfolding end after release afterCertificate releases ancestry line sameBytes joined released
-    writes = rw (found-it, still .own, is-one)
-
-    facts-end : Facts blockName 2 (and-also j A) oneself end
-    unfolding end after release releasing afterCertificate
-    facts-end =
-        let k = length (kept (heldBlock after blockName .block) (blocks after)) in
-        record {
-          settings = count-settings with k ∙ still .settings ∙ settings;
-          view = refl;
-          low = lit≤ tt;
-          high = lit≤ tt;
-          rows = rows-same blockName 2 (and-also j A) oneself with (withBlockCount with k) (λ t v. count-behind with k (rowOf t v) (sizeOf t) (omega (arith, row-head t v))) rows-after;
-        }
+    unfolding end after released
+    writes = released-out holding ∙ rw (still .own, is-one)
 
     done-end : Done end
-    unfolding end after release releasing afterCertificate locksOf certificateFrom counted held
-    done-end =
-        record {
-          noA = no-A blockName 2 (and-also j A) oneself end facts-end;
-          noB = no-B blockName 2 (and-also j A) oneself end facts-end;
-          noC = no-C-locked blockName 2 (and-also j A) oneself end facts-end 60 refl;
-          noD = no-D-tip blockName 2 (and-also j A) oneself end facts-end (lit≤ tt) (rw (found-it, same-refl blockName) (lit≤ tt));
-        }
+    unfolding end after
+    done-end = released-done holding facts
 
     releases-it : Took before (voteOf j) (released ∷ []) (replicaOf end)
     unfolding joined All encode released

@@ -119,7 +119,7 @@ advanced-commit W W₁ w x l h A = record {
 }
 
 -- ---- a row with no entry counts nothing
-none-kept : (m : List ℕ) (row n : ℕ) → n ≤ largest → ((i : ℕ) → has m row i ≡ false) → keptCount m row n ≡ 0
+pub none-kept : (m : List ℕ) (row n : ℕ) → n ≤ largest → ((i : ℕ) → has m row i ≡ false) → keptCount m row n ≡ 0
 unfolding counted
 none-kept m row n h e = let z : n ≡ 0 + n = omega arith in kept-counted m row n (omega arith) ∙ ap (counted (has m row)) z ∙ counted-above (has m row) 0 n (λ i l. e i)
 
