@@ -190,12 +190,19 @@ impl Script {
 
     fn any_numbers(&mut self, opening: Opening) -> [u64; 5] {
         let mut five = opening.numbers();
-        if self.random.chance(40) {
-            let i = self.random.index(5);
-            let any = self.random.number();
-            let near = five[i].wrapping_add(self.random.pick(&[1, u64::MAX]));
-            let wrapped = five[i] | 1 << self.random.between(16, 63); // the same in its low bits
-            five[i] = self.random.pick(&[near, near, wrapped, five[3], 1 << 62, u64::MAX, any]);
+        match self.random.below(10) {
+            0..2 => {
+                let bits = self.random.pick(&[16, 32, 64]);
+                return opening.spoilt_numbers(bits, &mut self.random);
+            }
+            2..5 => {
+                let i = self.random.index(5);
+                let any = self.random.number();
+                let near = five[i].wrapping_add(self.random.pick(&[1, u64::MAX]));
+                let wrapped = five[i] | 1 << self.random.between(16, 63); // the same in its low bits
+                five[i] = self.random.pick(&[near, near, wrapped, five[3], 1 << 62, u64::MAX, any]);
+            }
+            _ => {}
         }
         five
     }

@@ -2,7 +2,7 @@
 
 use std::fmt;
 
-use oracle::{answer, Counters, Leaders, Refusal, Replica, Reply};
+use oracle::{answer, Counters, Leaders, Refusal, Reply, Settings};
 use streams::{Coverage, Kind, Path, REACHABLE};
 
 use crate::expected::Expected;
@@ -13,6 +13,8 @@ use crate::step::{AnyCall, Step};
 pub struct Tally {
     pub calls: Coverage,
     pub openings: [u64; 3],
+    /// Openings refused for their numbers: n over 32, own number from n on, n that is 3f+2c+k+1 only in 64 bits, another n.
+    pub numbers: [u64; 4],
     /// Openings refused for their leader list alone: empty, longer than 64, with an entry from n on.
     pub lists: [u64; 3],
 }
@@ -22,10 +24,7 @@ impl Tally {
     pub fn count(&mut self, step: &Step, reply: Reply, before: Option<Counters>, after: &Expected) {
         let call = match &step.call {
             AnyCall::Open(numbers, leaders) => {
-                self.openings[usize::from(answer(reply))] += 1;
-                if reply == Err(Refusal::Settings) && settings_are_taken(*numbers) {
-                    self.lists[broken_rule(leaders)] += 1;
-                }
+                self.count_opening(reply, *numbers, leaders);
                 return;
             }
             AnyCall::Call(call) => call,
@@ -36,6 +35,16 @@ impl Tally {
                 self.calls.count(call, reply, &before, replica, output);
             }
             _ => self.calls.count_refused(call, Refusal::Regions),
+        }
+    }
+
+    fn count_opening(&mut self, reply: Reply, numbers: [u64; 5], leaders: &[u8]) {
+        self.openings[usize::from(answer(reply))] += 1;
+        if reply == Err(Refusal::Settings) {
+            match broken_number(numbers) {
+                Some(rule) => self.numbers[rule] += 1,
+                None => self.lists[broken_rule(leaders)] += 1,
+            }
         }
     }
 
@@ -69,8 +78,13 @@ impl Tally {
     }
 }
 
-fn settings_are_taken([f, c, k, n, own]: [u64; 5]) -> bool {
-    Replica::open(f, c, k, n, own, &[0]).is_ok()
+/// Which rule five numbers break; none if they are taken.
+fn broken_number([f, c, k, n, own]: [u64; 5]) -> Option<usize> {
+    let sum = 3 * u128::from(f) + 2 * u128::from(c) + u128::from(k) + 1;
+    if sum == n.into() {
+        return if n > Settings::MAX_N as u64 { Some(0) } else { (own >= n).then_some(1) };
+    }
+    Some(if sum as u64 == n { 2 } else { 3 })
 }
 
 /// Which rule a list breaks that is refused.
@@ -95,9 +109,14 @@ fn pairs() -> Vec<(Kind, u16)> {
 impl fmt::Display for Tally {
     fn fmt(&self, f: &mut fmt::Formatter<'_>) -> fmt::Result {
         let [accepted, settings, regions] = self.openings;
+        let [too_many, own, wrapped, other] = self.numbers;
         let [empty, longer, outside] = self.lists;
         writeln!(f, "{}", self.calls)?;
         writeln!(f, "openings: {accepted} accepted, {settings} refused by 1, {regions} by 2")?;
+        writeln!(
+            f,
+            "for the numbers: {too_many} n over 32, {own} own number, {wrapped} wrapped sum, {other} another n"
+        )?;
         writeln!(f, "for the list alone: {empty} empty, {longer} too long, {outside} with an entry from n on")?;
         write!(f, "{} calls compared, {} % accepted, ", self.compared(), self.accepted_percent())?;
         write!(f, "{} pairs (kind of call, answer), missing {:?}", self.pairs_hit(), self.missing())

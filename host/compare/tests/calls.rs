@@ -4,6 +4,16 @@ use compare::{compare_part, Kind, Tally};
 use oracle::Faults;
 use streams::{Kind as Call, Path};
 
+/// What 02, 2.2 added: settings that 01's bound kept out, a cluster of one among them, and rules that run in one call there.
+const WITH_EVERY_K: [Path; 6] = [
+    Path::NoByzantine,
+    Path::AboveBound,
+    Path::DecidedAlone,
+    Path::TimedOutAlone,
+    Path::EchoAndCertificate,
+    Path::CertificateAndFastRelease,
+];
+
 fn number(variable: &str, otherwise: u64) -> u64 {
     std::env::var(variable).map_or(otherwise, |text| text.parse().expect("a number"))
 }
@@ -18,7 +28,11 @@ fn compare_half(kind: Kind) -> Tally {
     assert!(tally.compared() >= calls);
     assert!(tally.accepted_percent() >= 30);
     assert_eq!(tally.unlisted(), [], "pairs that 01's table doesn't have");
+    for path in WITH_EVERY_K {
+        assert!(tally.calls.of_path(path) > 100, "{path:?}: {}", tally.calls.of_path(path));
+    }
     assert!(tally.openings.iter().all(|&times| times > 0), "openings accepted, refused by 1 and by 2");
+    assert!(tally.numbers.iter().all(|&times| times > 0), "n over 32, own numbers, sums that wrap round, other n");
     assert!(tally.lists.iter().all(|&times| times > 0), "leader lists that are empty, too long, or have other numbers");
     tally
 }

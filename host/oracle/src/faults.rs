@@ -1,4 +1,4 @@
-//! Deliberate errors, all off by default: 01's missteps and quorums one too low.
+//! Deliberate errors, all off by default: 01's missteps and quorums one too low, though never 0.
 
 /// Which errors a replica makes. 01: "Missteps by which two chains arise".
 #[derive(Clone, Copy, Debug, Default, PartialEq, Eq)]

@@ -14,14 +14,13 @@ impl Settings {
     /// The largest cluster.
     pub const MAX_N: usize = 32;
 
-    /// None where f, c, k break a rule of 01: n at most 32, "k ≤ 2f+c−4 for even c, k ≤ 2f+c−3 for odd c".
+    /// None where n is over 32. 02, 2.2: "From now on every k ≥ 0 is taken as long as n is at most 32".
     pub fn new(f: u64, c: u64, k: u64) -> Option<Settings> {
         let most = Self::MAX_N as u64;
         if f > most || c > most || k > most {
             return None; // n would be over 32; keeps the sums below small
         }
-        let slack = if c.is_multiple_of(2) { 4 } else { 3 };
-        let taken = 3 * f + 2 * c + k < most && k + slack <= 2 * f + c;
+        let taken = 3 * f + 2 * c + k < most;
         taken.then_some(Settings { f: f as u32, c: c as u32, k: k as u32 })
     }
 
@@ -90,16 +89,17 @@ pub struct Quorums {
 }
 
 impl Quorums {
-    /// 01's quorums where no fault is set.
+    /// 01's quorums where no fault is set. Faults leave none below 1: B with a quorum of 0 would run for ever.
     pub fn new(settings: Settings, faults: Faults) -> Quorums {
         // With p from c+k+2 instead of c+k, p is one higher.
         let p_over = u32::from(faults.p_from_c_k_2);
+        let lowered = |quorum: u32, by: u32| quorum.saturating_sub(by).max(1);
         Quorums {
-            block: settings.block_quorum() - u32::from(faults.block_quorum_lower),
-            weak: settings.weak_quorum() + p_over - u32::from(faults.weak_quorum_lower),
-            timeout: settings.timeout_quorum() - u32::from(faults.timeout_quorum_lower),
-            slow: settings.slow_quorum() - u32::from(faults.slow_quorum_lower),
-            fast: settings.fast_quorum() - p_over - u32::from(faults.fast_quorum_lower),
+            block: lowered(settings.block_quorum(), faults.block_quorum_lower.into()),
+            weak: lowered(settings.weak_quorum() + p_over, faults.weak_quorum_lower.into()),
+            timeout: lowered(settings.timeout_quorum(), faults.timeout_quorum_lower.into()),
+            slow: lowered(settings.slow_quorum(), faults.slow_quorum_lower.into()),
+            fast: lowered(settings.fast_quorum(), p_over + u32::from(faults.fast_quorum_lower)),
         }
     }
 }

@@ -46,12 +46,33 @@ impl Cluster {
     }
 }
 
+/// 01's three, f = 0, 02's ring of ten, and what the bound on k kept out: clusters of one to four, no Byzantine and no
+/// stopped replica at all, the highest k.
+const SETTINGS: [(u64, u64, u64); 12] = [
+    (1, 1, 0),
+    (2, 2, 2),
+    (7, 5, 0),
+    (0, 4, 0),
+    (1, 2, 2),
+    (2, 0, 1),
+    (0, 0, 0),
+    (0, 0, 1),
+    (0, 1, 0),
+    (1, 0, 0),
+    (0, 0, 31),
+    (1, 0, 28),
+];
+
+/// 0 to n−1, one leader for ever, and an uneven list.
+fn leader_lists(n: u8) -> [Vec<u8>; 3] {
+    [(0..n).collect(), vec![4 % n], [1, 0, 1, 1, 5].map(|number| number % n).to_vec()]
+}
+
 #[test]
 fn every_view_releases_a_block() {
-    for (f, c, k) in [(1, 1, 0), (2, 2, 2), (0, 4, 0), (7, 5, 0)] {
-        let in_turn: Vec<u8> = (0..(3 * f + 2 * c + k + 1) as u8).collect();
-        for leaders in [&in_turn[..], &[4], &[1, 0, 1, 1, 5]] {
-            let mut cluster = Cluster::open(f, c, k, leaders);
+    for (f, c, k) in SETTINGS {
+        for leaders in leader_lists((3 * f + 2 * c + k + 1) as u8) {
+            let mut cluster = Cluster::open(f, c, k, &leaders);
             for view in 1..40 {
                 let leader = leaders[(view - 1) % leaders.len()];
                 cluster.propose(leader.into(), [view as u8; 32]).unwrap();
@@ -65,14 +86,18 @@ fn every_view_releases_a_block() {
 
 #[test]
 fn timeouts_lead_to_the_next_view_and_the_chain_goes_on() {
-    let mut cluster = Cluster::open(1, 1, 0, &[0, 1, 2, 3, 4, 5]);
-    cluster.propose(0, [1; 32]).unwrap();
-    for who in 0..4 {
-        if cluster.replicas[who].counters.view == View(2) && cluster.replicas[who].counters.timed < View(2) {
-            cluster.time_out(who, 2);
+    for (f, c, k) in SETTINGS {
+        let in_turn: Vec<u8> = (0..(3 * f + 2 * c + k + 1) as u8).collect();
+        let mut cluster = Cluster::open(f, c, k, &in_turn);
+        cluster.propose(0, [1; 32]).unwrap();
+        for who in 0..in_turn.len() {
+            let counters = cluster.replicas[who].counters;
+            if counters.view == View(2) && counters.timed < View(2) {
+                cluster.time_out(who, 2);
+            }
         }
+        assert!(cluster.replicas.iter().all(|replica| replica.counters.view == View(3)), "{f} {c} {k}");
+        cluster.propose(2 % in_turn.len(), [3; 32]).unwrap();
+        assert!(cluster.releases.iter().all(|row| *row == [[1; 32], [3; 32]]), "{f} {c} {k}");
     }
-    assert!(cluster.replicas.iter().all(|replica| replica.counters.view == View(3)));
-    cluster.propose(2, [3; 32]).unwrap();
-    assert!(cluster.releases.iter().all(|row| *row == [[1; 32], [3; 32]]));
 }

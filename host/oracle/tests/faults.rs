@@ -47,6 +47,21 @@ fn quorums() {
     }
 }
 
+/// In a cluster of one every quorum is 1, and no fault makes it 0.
+#[test]
+fn no_quorum_is_0() {
+    let one = Settings::new(0, 0, 0).unwrap();
+    let right = Quorums { block: 1, weak: 1, timeout: 1, slow: 1, fast: 1 };
+    assert_eq!(Quorums::new(one, Faults::NONE), right);
+    let mut all = Faults::NONE;
+    for name in Faults::NAMES {
+        let weak = if name == "p-from-c-k-2" { 2 } else { 1 };
+        assert_eq!(Quorums::new(one, faults(name)), Quorums { weak, ..right }, "{name}");
+        assert!(all.set(name));
+    }
+    assert_eq!(Quorums::new(one, all), right);
+}
+
 /// Two high votes for A and a block certificate for B, all of view 3.
 fn safe(faults: Faults, with_certificate: bool) -> Certificate {
     let mut timeouts = [0, 1, 2, 3].map(|sender| timeout(sender, 3));

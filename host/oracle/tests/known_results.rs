@@ -8,33 +8,102 @@ use oracle::{answer, wire, Certificate, Faults, Protocol, Refusal, Replica, Sett
 const A: [u8; 32] = [0xA1; 32];
 const B: [u8; 32] = [0xB1; 32];
 
+/// 01's table as 02, 2.2 changes it: (2,0,1) "opens with n = 8 and 6, 3, 6, 5, 8. The ring of ten has thresholds 6, 4,
+/// 7, 5, 8".
 #[test]
 fn settings_give_n_and_thresholds() {
-    let table =
-        [((1, 1, 0), 6, [4, 2, 4, 4, 6]), ((2, 2, 2), 13, [8, 5, 9, 7, 11]), ((7, 5, 0), 32, [20, 10, 20, 20, 30])];
+    let table = [
+        ((1, 1, 0), 6, [4, 2, 4, 4, 6]),
+        ((2, 2, 2), 13, [8, 5, 9, 7, 11]),
+        ((7, 5, 0), 32, [20, 10, 20, 20, 30]),
+        ((2, 0, 1), 8, [6, 3, 6, 5, 8]),
+        ((1, 2, 2), 10, [6, 4, 7, 5, 8]),
+        ((0, 0, 0), 1, [1, 1, 1, 1, 1]),
+    ];
     for ((f, c, k), n, quorums) in table {
         let s = Settings::new(f, c, k).expect("good settings");
         let given = [s.block_quorum(), s.weak_quorum(), s.timeout_quorum(), s.slow_quorum(), s.fast_quorum()];
         assert_eq!((s.n(), given), (n, quorums));
+        let opened = Replica::open(f, c, k, n.into(), u64::from(n) - 1, &[0]).expect("good settings");
+        assert_eq!((opened.settings(), opened.own()), (s, n as u16 - 1));
+    }
+}
+
+fn is_refused(f: u64, c: u64, k: u64, n: u64, own: u64) -> bool {
+    match Replica::open(f, c, k, n, own, &[0]) {
+        Ok(_) => false,
+        Err(refusal) => {
+            assert_eq!(refusal, Refusal::Settings);
+            true
+        }
     }
 }
 
 #[test]
 fn bad_settings_are_refused_1() {
-    let refused = [
-        (2, 0, 1, 8, 0),        // k over the bound
-        (8, 4, 0, 33, 0),       // n over 32
-        (1, 1, 0, 5, 0),        // n isn't 3f+2c+k+1
-        (1, 1, 0, 6, 6),        // own number ≥ n
-        (0, 0, 0, 1, 0),        // the bound is over the integers: −4
-        (u64::MAX, 1, 0, 6, 0), // no sum overflows
-        (1, u64::MAX / 2, 0, 6, 0),
-        (1, 1, u64::MAX, 6, 0),
-    ];
-    for (f, c, k, n, own) in refused {
-        assert_eq!(Replica::open(f, c, k, n, own, &[0]).err(), Some(Refusal::Settings), "{f} {c} {k} {n} {own}");
+    for (f, c, k, n, own) in [
+        (8, 4, 0, 33, 0), // n over 32
+        (0, 0, 32, 33, 0),
+        (1, 1, 0, 5, 0), // n isn't 3f+2c+k+1
+        (1, 2, 2, 9, 0),
+        (1, 2, 2, 11, 0),
+        (0, 0, 0, 0, 0),
+        (1, 1, 0, 6, 6), // own number ≥ n
+        (0, 0, 0, 1, 1),
+    ] {
+        assert!(is_refused(f, c, k, n, own), "{f} {c} {k} {n} {own}");
     }
-    assert!(Replica::open(0, 4, 0, 9, 8, &[0]).is_ok());
+}
+
+/// "every k ≥ 0 is taken as long as n is at most 32": all settings near, each opened with every own number.
+#[test]
+fn opening_takes_every_setting_of_at_most_32_replicas() {
+    let mut taken = [0; 11];
+    for (f, c, k) in (0..=40).flat_map(|f| (0..=40).flat_map(move |c| (0..=40).map(move |k| (f, c, k)))) {
+        for n in 0..=45 {
+            let good = n == 3 * f + 2 * c + k + 1 && n <= 32;
+            assert_eq!(is_refused(f, c, k, n, 0), !good, "{f} {c} {k} {n}");
+            if good {
+                taken[f as usize] += 1;
+                assert!((1..n).all(|own| !is_refused(f, c, k, n, own)), "{f} {c} {k} {n}");
+                assert!([n, n + 1, 1 << 16, 1 << 32, u64::MAX].iter().all(|&own| is_refused(f, c, k, n, own)));
+            }
+        }
+    }
+    // For each f the pairs with 2c+k ≤ m = 31−3f: m/2+1 rounded down, times m/2+1 rounded up.
+    let by_f: [u64; 11] = [272, 225, 182, 144, 110, 81, 56, 36, 20, 9, 2];
+    assert_eq!(taken, by_f);
+    assert_eq!(taken.iter().sum::<u64>(), 1137);
+}
+
+/// No sum overflows, and no number is cut to fewer bits.
+#[test]
+fn huge_numbers_are_refused_1() {
+    let third = u64::MAX / 3 + 1; // 3 of these are 2 in 64 bits
+    for (f, c, k, n) in [
+        (third, 0, 0, 3),
+        (2 * third, 0, 0, 5),
+        (0, 1 << 63, 0, 1),
+        (0, u64::MAX, 3, 2),
+        (0, 0, u64::MAX, 0),
+        (1, 1, u64::MAX - 4, 1),
+        (u64::MAX, 1, 0, 6),
+        (1, u64::MAX / 2, 0, 6),
+        (1, 1, u64::MAX, 6),
+        (1 << 32, 1 << 32, 1 << 32, 1),
+        (u64::MAX, u64::MAX, u64::MAX, u64::MAX),
+    ] {
+        assert!(is_refused(f, c, k, n, 0), "{f} {c} {k} {n}");
+    }
+    for place in 0..5 {
+        for high in [1 << 8, 1 << 16, 1 << 32, 1 << 63, u64::MAX - 99] {
+            let mut numbers = [1, 2, 2, 10, 9];
+            numbers[place] += high;
+            let [f, c, k, n, own] = numbers;
+            assert!(is_refused(f, c, k, n, own), "{numbers:?}");
+        }
+    }
+    assert!(!is_refused(1, 2, 2, 10, 9));
 }
 
 /// Timeouts of view 3 from replicas 0, 1, .. with these high votes of view 3 and the genesis certificate.

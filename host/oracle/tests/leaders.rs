@@ -52,7 +52,7 @@ fn the_list_goes_round() {
 /// 02: "the list 0 to n−1 must behave exactly as today": 01's "The leader of view v ≥ 1 is box (v−1) mod n."
 #[test]
 fn in_turn_is_01s_rule() {
-    for (f, c, k) in [(1, 1, 0), (2, 2, 2), (7, 5, 0), (0, 4, 0)] {
+    for (f, c, k) in [(1, 1, 0), (2, 2, 2), (7, 5, 0), (0, 4, 0), (0, 0, 0), (1, 2, 2), (0, 0, 31)] {
         let settings = Settings::new(f, c, k).expect("good settings");
         let (leaders, n) = (Leaders::in_turn(settings), u64::from(settings.n()));
         for view in (1..100).chain(View::MAX.0 - 40..View::MAX.0 + 40).chain(u64::MAX - 40..=u64::MAX) {

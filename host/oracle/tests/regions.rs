@@ -139,12 +139,13 @@ fn refused_calls_leave_every_byte() {
 /// Every rule of refusal 2, one at a time.
 #[test]
 fn regions_that_break_a_rule_are_turned_away() {
-    let breaks: [fn(&mut Rooms); 17] = [
+    let breaks: [fn(&mut Rooms); 18] = [
         |rooms| rooms.lent[0] -= 1,
         |rooms| rooms.lent[1] -= 1,
         |rooms| rooms.lent[2] -= 1,
-        |rooms| rooms.memory[0] = 0,   // (0, 1, 0)
-        |rooms| rooms.memory[0] = 10,  // n = 33
+        |rooms| rooms.memory[0] = 10,  // f: n = 33
+        |rooms| rooms.memory[2] = 15,  // c: n = 34
+        |rooms| rooms.memory[4] = 27,  // k: n = 33
         |rooms| rooms.memory[6] = 6,   // own number
         |rooms| rooms.memory[8] = 129, // held blocks
         |rooms| rooms.memory[10] = 55, // length of the entry certificate
@@ -170,6 +171,18 @@ fn regions_that_break_a_rule_are_turned_away() {
     put_timeouts(&mut rooms, 6);
     rooms.memory[12] = 64;
     assert_eq!(call(&mut rooms, &vote_record(3, 1, name(1))), Ok(0));
+}
+
+/// 02, 2.2: "every k ≥ 0 is taken as long as n is at most 32", in memory as at an opening.
+#[test]
+fn settings_of_at_most_32_replicas_are_let_by() {
+    for (f, c, k) in [(0, 1, 0), (1, 0, 0), (1, 1, 26), (1, 14, 0), (9, 1, 2), (0, 0, 31)] {
+        let mut rooms = opened();
+        for (place, number) in [f, c, k].into_iter().enumerate() {
+            rooms.memory[2 * place] = number;
+        }
+        assert_eq!(call(&mut rooms, &vote_record(1, 1, name(1))), Ok(0), "{f} {c} {k}");
+    }
 }
 
 /// An entry certificate of so many timeouts, whatever they are.

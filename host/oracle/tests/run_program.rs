@@ -81,6 +81,24 @@ fn bad_openings_stop() {
     assert_eq!(with(|input| input[0] = 25), REFUSED); // length
 }
 
+/// 02, 2.2: "every k ≥ 0 is taken as long as n is at most 32 .. a ring of one box included".
+#[test]
+fn every_k_is_opened() {
+    let run_with = |numbers| {
+        let mut input = Vec::new();
+        wire::write_opening(&mut input, numbers);
+        wire::write_propose(&mut input, [1; 32]);
+        wire::write_timer(&mut input, View(2));
+        run(&[], &input)
+    };
+    for numbers in [[2, 0, 1, 8, 0], [1, 2, 2, 10, 0], [0, 0, 31, 32, 0]] {
+        assert_eq!(run_with(numbers), format!("{HEADER}1 0 1 0 0\n2 8 1 0 0\n"));
+    }
+    assert_eq!(run_with([0, 0, 0, 1, 0]), format!("{HEADER}1 0 2 0 1\n2 0 3 2 1\n"));
+    assert_eq!(run_with([8, 4, 0, 33, 0]), REFUSED);
+    assert_eq!(run_with([0, 0, 32, 33, 0]), REFUSED);
+}
+
 #[test]
 fn a_record_cut_short_or_too_long_stops() {
     let mut vote = Vec::new();

@@ -20,7 +20,7 @@
  * - of the output, kind 6 goes to the leader of the next view by the list (for one of view w, of view w + 1), kind 9
  *   (a release) to the host itself, all else to every other replica.
  *
- * On the deepest inputs known a call takes under 240 KiB of stack.
+ * On the deepest inputs known a call takes under 384 KiB of stack.
  */
 #ifndef HYDRANGEA_H
 #define HYDRANGEA_H
@@ -82,10 +82,11 @@ typedef struct hydrangea_reply {
 } hydrangea_reply;
 
 /*
- * Opens the replica `own` of a cluster of n = 3f + 2c + k + 1 in what is lent, whatever stood there. The leader list
- * has 1 to 64 replica numbers, one byte each; the leader of view v is entry (v - 1) mod its length. A replica may stand
- * in it several times or not at all. The list is kept in the memory, where no other call changes it. Refusals 1 (settings,
- * own number, or the list is empty, longer or has an entry of n or above) and 2 (a region is too short). The store's
+ * Opens the replica `own` of a cluster of n = 3f + 2c + k + 1 in what is lent, whatever stood there. Any f, c and k are
+ * taken as long as n is at most 32; all of them 0 is a cluster of one. The leader list has 1 to 64 replica numbers, one
+ * byte each; the leader of view v is entry (v - 1) mod its length. A replica may stand in it several times or not at all.
+ * The list is kept in the memory, where no other call changes it. Refusals 1 (n isn't that sum or over 32, the own number
+ * is n or above, or the list is empty, longer or has an entry of n or above) and 2 (a region is too short). The store's
  * entries are left as they are; nothing is written to send.
  */
 hydrangea_reply hydrangea_open(hydrangea_counters *counters, uint8_t *memory, size_t memory_length,

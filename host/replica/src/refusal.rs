@@ -66,8 +66,8 @@ impl Refusal {
     pub fn meaning(self) -> &'static str {
         match self {
             Refusal::Settings => {
-                "settings break a rule, the own number is n or above, or the leader list is empty, longer than 64 or has \
-                 an entry of n or above"
+                "n isn't 3f + 2c + k + 1 or is over 32, the own number is n or above, or the leader list is empty, longer than \
+                 64 or has an entry of n or above"
             }
             Refusal::Regions => "a region is too short, or memory or store break a rule",
             Refusal::Length => "a length is wrong, of the slice, its length field, its kind or an inner record",

@@ -1,7 +1,8 @@
 //! The values that cross the library's boundary. All of them are numbers and bytes without gaps: any bits are a value.
 
 /// The settings of a cluster of n = 3f + 2c + k + 1 replicas, at most 32: it bears f Byzantine and c stopped ones, and k
-/// more replicas make releases by votes alone likelier. Opening tests them.
+/// more replicas make releases by votes alone likelier. Each of f, c and k may be 0, all of them in a cluster of one. Opening
+/// tests them.
 #[derive(Clone, Copy, Debug, PartialEq, Eq, Hash)]
 pub struct Settings {
     pub f: u64,

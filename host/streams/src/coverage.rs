@@ -5,6 +5,7 @@ use std::fmt;
 use oracle::{answer, wire, Leaders, Refusal, Replica, Reply};
 
 use crate::call::Call;
+use crate::opening::is_above_bound;
 
 /// The rows of the table: kinds of records that a replica knows, its other calls, and all other slices.
 #[derive(Clone, Copy, Debug, PartialEq, Eq)]
@@ -105,10 +106,23 @@ pub enum Path {
     NotLedByList,
     /// The same in a view whose entry is no replica's; only garbage has such.
     LedByNobody,
+    /// A call accepted where f = 0.
+    NoByzantine,
+    /// The same where 01's bound kept k out.
+    AboveBound,
+    /// A cluster of one: proposal, vote, block certificate, commit and release by one call.
+    DecidedAlone,
+    /// A cluster of one: timeout and timeout certificate by one call.
+    TimedOutAlone,
+    /// A and B: a timeout after which the own one and the certificate were sent. From an opening f+c+k is 1 then.
+    EchoAndCertificate,
+    /// C and D: a vote that formed a certificate, and votes that released. From an opening a fast release then takes no more
+    /// votes than a block certificate.
+    CertificateAndFastRelease,
 }
 
 impl Path {
-    pub const ALL: [Path; 13] = [
+    pub const ALL: [Path; 19] = [
         Path::Echo,
         Path::TimeoutCertificateFormed,
         Path::BlockCertificateFormed,
@@ -122,6 +136,12 @@ impl Path {
         Path::LedByList,
         Path::NotLedByList,
         Path::LedByNobody,
+        Path::NoByzantine,
+        Path::AboveBound,
+        Path::DecidedAlone,
+        Path::TimedOutAlone,
+        Path::EchoAndCertificate,
+        Path::CertificateAndFastRelease,
     ];
 }
 
@@ -129,7 +149,7 @@ impl Path {
 #[derive(Clone, Debug, Default)]
 pub struct Coverage {
     answers: [[u64; 16]; 10],
-    paths: [u64; 13],
+    paths: [u64; Path::ALL.len()],
 }
 
 impl Coverage {
@@ -140,8 +160,9 @@ impl Coverage {
         self.count_leaders(call, reply, before, after);
         if reply.is_ok() {
             self.count_certificates(kind, before, after, output);
-            self.count_releases(after, output);
+            self.count_releases(kind, after, output);
             self.count_state(before, after);
+            self.count_settings(after, output);
         }
     }
 
@@ -217,21 +238,25 @@ impl Coverage {
     }
 
     fn count_certificates(&mut self, kind: Kind, before: &oracle::Counters, after: &Replica, output: &[u8]) {
-        let wrote = |kind: u16| wire::records(output).any(|record| wire::kind_of(record) == kind);
-        if kind != Kind::Timer && wrote(wire::kind::TIMEOUT) {
-            self.took(Path::Echo);
+        let echoed = kind != Kind::Timer && wrote(output, wire::kind::TIMEOUT);
+        let formed = matches!(kind, Kind::Timeout | Kind::Timer) && wrote(output, wire::kind::TIMEOUT_CERTIFICATE);
+        for (path, taken) in [
+            (Path::Echo, echoed),
+            (Path::TimeoutCertificateFormed, formed),
+            (Path::EchoAndCertificate, echoed && formed),
+        ] {
+            if taken {
+                self.took(path);
+            }
         }
-        if matches!(kind, Kind::Timeout | Kind::Timer) && wrote(wire::kind::TIMEOUT_CERTIFICATE) {
-            self.took(Path::TimeoutCertificateFormed);
-        }
-        if kind == Kind::Vote && wrote(wire::kind::BLOCK_CERTIFICATE) {
+        if kind == Kind::Vote && wrote(output, wire::kind::BLOCK_CERTIFICATE) {
             self.took(Path::BlockCertificateFormed);
         } else if kind == Kind::Vote && before.lock != after.counters.lock {
             self.took(Path::LockMoved);
         }
     }
 
-    fn count_releases(&mut self, after: &Replica, output: &[u8]) {
+    fn count_releases(&mut self, kind: Kind, after: &Replica, output: &[u8]) {
         let releases: Vec<_> =
             wire::records(output).filter(|record| wire::kind_of(record) == wire::kind::RELEASE).collect();
         let Some(last) = releases.last() else { return };
@@ -239,6 +264,9 @@ impl Coverage {
         let votes = after.memory.votes.row(view).backers(after.settings().everyone(), &wire::name_at(last, 16));
         if votes.count_ones() >= after.protocol().quorums.fast {
             self.took(Path::FastRelease);
+            if kind == Kind::Vote && wrote(output, wire::kind::BLOCK_CERTIFICATE) {
+                self.took(Path::CertificateAndFastRelease);
+            }
         } else {
             self.took(Path::SlowRelease);
         }
@@ -258,6 +286,29 @@ impl Coverage {
             self.took(Path::FullStore);
         }
     }
+
+    fn count_settings(&mut self, after: &Replica, output: &[u8]) {
+        let settings = after.settings();
+        if settings.f() == 0 {
+            self.took(Path::NoByzantine);
+        }
+        if is_above_bound(settings) {
+            self.took(Path::AboveBound);
+        }
+        if settings.n() == 1 {
+            let kinds: Vec<u16> = wire::records(output).map(wire::kind_of).collect();
+            match kinds[..] {
+                [7, 1, 3, 2, 9] => self.took(Path::DecidedAlone),
+                [5, 6] => self.took(Path::TimedOutAlone),
+                _ => {}
+            }
+        }
+    }
+}
+
+/// Whether a record of this kind stands in an output.
+fn wrote(output: &[u8], kind: u16) -> bool {
+    wire::records(output).any(|record| wire::kind_of(record) == kind)
 }
 
 /// A table of calls by kind and answer, then the paths.

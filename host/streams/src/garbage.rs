@@ -6,8 +6,8 @@ use oracle::{
 };
 
 use crate::leaders::next_led;
+use crate::opening::Opening;
 use crate::random::Random;
-use crate::stream::Opening;
 
 /// An opened replica with garbage in its state. Few names and near views make quorums and walks likely.
 pub fn garbage(opening: Opening, random: &mut Random) -> Replica {

@@ -29,9 +29,12 @@ impl Maker<'_> {
         self.random.below(u64::from(self.settings().n())) as u16
     }
 
+    /// One but the own; in a cluster of one a number that is no replica's.
     pub fn other_replica(&mut self) -> u16 {
-        let n = u64::from(self.settings().n());
-        ((u64::from(self.replica.own()) + 1 + self.random.below(n - 1)) % n) as u16
+        match u64::from(self.settings().n()) {
+            1 => 1,
+            n => ((u64::from(self.replica.own()) + 1 + self.random.below(n - 1)) % n) as u16,
+        }
     }
 
     /// A name that isn't held, as good as surely. Many share all but one byte, so that order by bytes is tried.
@@ -72,9 +75,10 @@ impl Maker<'_> {
         name
     }
 
-    /// A set of at least `quorum` replicas, often of just as many.
+    /// A set of at least `quorum` replicas, often of just as many; of all where a fault asks for more.
     fn signers(&mut self, quorum: u32) -> u64 {
         let n = self.settings().n();
+        let quorum = quorum.min(n);
         let count = if self.random.chance(60) { quorum } else { self.random.between(quorum.into(), n.into()) as u32 };
         self.random.subset(self.settings().everyone(), count)
     }

@@ -4,8 +4,9 @@ use oracle::{run, wire, Refusal, Replica};
 
 use crate::call::Call;
 use crate::coverage::Coverage;
+use crate::opening::Opening;
 use crate::random::Random;
-use crate::stream::{Opening, Stream};
+use crate::stream::Stream;
 
 /// A stream that was played from an opening.
 pub struct Played {
@@ -73,13 +74,8 @@ fn as_input(call: Call, opening: Opening, random: &mut Random) -> Vec<u8> {
 impl Opening {
     /// The record that opens a run.
     pub fn encode(&self) -> Vec<u8> {
-        self.encode_with(&[])
-    }
-
-    /// The record that opens lent regions with this list.
-    pub fn encode_with(&self, leaders: &[u8]) -> Vec<u8> {
         let mut bytes = Vec::new();
-        wire::write_opening_with(&mut bytes, self.numbers().map(|number| number as u16), leaders);
+        wire::write_opening(&mut bytes, self.numbers().map(|number| number as u16));
         bytes
     }
 }

@@ -2,8 +2,8 @@
 
 use oracle::{Leaders, Replica, Settings, View};
 
+use crate::opening::Opening;
 use crate::random::Random;
-use crate::stream::Opening;
 
 impl Opening {
     /// The same with a list: often 0 to n−1, else of any length, with repeats and gaps. The own number stands in it as
@@ -19,10 +19,11 @@ impl Opening {
         Opening { leaders: Leaders::new(&list, self.settings()).expect("a list that is taken"), ..self }
     }
 
-    /// The own number in so many of a hundred cases, else another.
+    /// The own number in so many of a hundred cases, else another; there is none in a cluster of one.
     fn entry(&self, own_share: u64, random: &mut Random) -> u8 {
-        let other = (self.own + random.between(1, self.n - 1)) % self.n;
-        (if random.chance(own_share) { self.own } else { other }) as u8
+        let own = self.n == 1 || random.chance(own_share);
+        let after = if own { 0 } else { random.between(1, self.n - 1) };
+        ((self.own + after) % self.n) as u8
     }
 
     /// A list that refusal 1 turns away: empty, longer, or with an entry that is no replica's.

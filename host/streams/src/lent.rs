@@ -11,8 +11,9 @@ use crate::call::Call;
 use crate::coverage::Coverage;
 use crate::garbage::garbage;
 use crate::input::play;
+use crate::opening::Opening;
 use crate::random::Random;
-use crate::stream::{Opening, Stream};
+use crate::stream::Stream;
 
 /// The most that a call writes: event 3,744, A 4·112, B 4·3,608, C 8·104, D 128·56.
 const MOST_WRITTEN: usize = 3_744 + 4 * 112 + 4 * 3_608 + 8 * 104 + 128 * 56;
@@ -26,6 +27,8 @@ pub struct LentCoverage {
     pub states: u64,
     /// States that refusal 2 turns away.
     pub turned_away: u64,
+    /// Those among them whose settings have an n over 32.
+    pub too_many: u64,
     /// Openings accepted and refused.
     pub openings: [u64; 2],
 }
@@ -37,7 +40,8 @@ impl fmt::Display for LentCoverage {
         writeln!(f, "{}", self.calls)?;
         writeln!(f, "rules run: A {a}, B {b}, C {c}, D {d}")?;
         writeln!(f, "openings: {opened} accepted, {not_opened} refused")?;
-        write!(f, "{} states, {} of them turned away by 2", self.states, self.turned_away)
+        write!(f, "{} states, {} of them turned away by 2, ", self.states, self.turned_away)?;
+        write!(f, "{} for an n over 32", self.too_many)
     }
 }
 
@@ -57,6 +61,7 @@ fn state_and_calls(seed: u64, calls: usize, coverage: &mut LentCoverage) -> Vec<
     coverage.states += 1;
     let turned_away = rooms.step(&Call::Timer(0).encode()) == Err(Refusal::Regions); // refused in any case
     coverage.turned_away += u64::from(turned_away);
+    coverage.too_many += u64::from(turned_away && has_too_many(&rooms));
     let (calls, openings) = if turned_away { (calls.min(6), 15) } else { (calls, 1) };
     for _ in 0..calls {
         let before = rooms.regions().load();
@@ -74,6 +79,12 @@ fn state_and_calls(seed: u64, calls: usize, coverage: &mut LentCoverage) -> Vec<
         bytes.extend_from_slice(&record);
     }
     bytes
+}
+
+/// Whether the settings in memory have an n over 32.
+fn has_too_many(rooms: &Rooms) -> bool {
+    let [f, c, k] = [0, 2, 4].map(|at| u64::from(wire::u16_at(&rooms.memory, at)));
+    3 * f + 2 * c + k + 1 > Settings::MAX_N as u64
 }
 
 /// The next call that the program takes as such: its record can be cut off by its length field, and no record has a kind
@@ -95,13 +106,13 @@ fn framed(stream: &mut Stream, replica: &Replica) -> Call {
 
 /// An opening over what is lent: mostly one that is accepted.
 fn any_opening(opening: Opening, random: &mut Random) -> Vec<u8> {
-    let mut other = Opening::seeded_led(random.number());
-    if random.chance(30) {
-        other.own = other.n;
-    }
+    let other = Opening::seeded_led(random.number());
     let one = random.pick(&[opening, other]);
+    let numbers = if random.chance(20) { one.spoilt_numbers(16, random) } else { one.numbers() };
     let list = if random.chance(15) { one.spoilt_list(random) } else { one.leaders.list().to_vec() };
-    one.encode_with(&list)
+    let mut bytes = Vec::new();
+    wire::write_opening_with(&mut bytes, numbers.map(|number| number as u16), &list);
+    bytes
 }
 
 /// Counts a call, and compares it with 01's loop to the letter.
@@ -120,8 +131,8 @@ fn count(coverage: &mut LentCoverage, before: Option<Replica>, call: &Call, repl
     coverage.calls.count(call, reply, &before.counters, &after, &output);
 }
 
-/// Rooms with a garbage state, or one that a run left, in random bytes; mostly some bytes of it are damaged, and at times
-/// one rule of refusal 2 is broken.
+/// Rooms with a garbage state, or one that a run left, in random bytes; mostly some bytes of it are damaged, at times the
+/// settings are other ones that are taken, and at times one rule of refusal 2 is broken.
 pub fn garbage_rooms(opening: Opening, random: &mut Random) -> Rooms {
     let mut rooms = Rooms::empty();
     scatter(&mut rooms.memory, random);
@@ -137,6 +148,9 @@ pub fn garbage_rooms(opening: Opening, random: &mut Random) -> Rooms {
     }
     if random.chance(8) {
         break_rule(&mut rooms, random);
+    } else if random.chance(8) {
+        let [f, c, k, ..] = Opening::any(random).numbers();
+        put_settings(&mut rooms, [f, c, k]);
     }
     rooms
 }
@@ -178,15 +192,19 @@ fn damage(rooms: &mut Rooms, random: &mut Random) {
 /// One rule of refusal 2 is broken, mostly by as little as can be.
 fn break_rule(rooms: &mut Rooms, random: &mut Random) {
     let [_, store, output] = rooms.lent;
-    let n = u16::try_from(rooms.regions().load().expect("sound").settings().n()).expect("at most 32");
+    let settings = rooms.regions().load().expect("sound").settings();
+    let n = u16::try_from(settings.n()).expect("at most 32");
     let any = random.number();
     match random.below(14) {
         0 => rooms.lent[0] = regions::MEMORY - 1,
         1 => rooms.lent = [regions::MEMORY - 1 - random.index(regions::MEMORY), store, output],
         2 => rooms.lent[1] = random.pick(&[Store::ROOM - 1, 0]),
         3 => rooms.lent[2] = random.pick(&[regions::OUTPUT - 1, 0]),
-        4 => put_u16(rooms, 0, random.pick(&[0, 1, 11, u16::MAX])), // f
-        5 => put_u16(rooms, 4, random.pick(&[30, 33, u16::MAX])),   // k
+        4 | 5 => {
+            let opening = Opening::new(settings.f().into(), settings.c().into(), settings.k().into(), 0);
+            let [f, c, k, ..] = opening.expect("taken settings").spoilt_sum(16, random);
+            put_settings(rooms, [f, c, k]);
+        }
         6 => put_u16(rooms, regions::OWN, random.pick(&[n, u16::MAX])),
         7 => {
             let view = random.pick(&[0, View::MAX.0 + 1, u64::MAX]);
@@ -206,6 +224,12 @@ fn put_entry(rooms: &mut Rooms, count: u16) {
     put_u16(rooms, regions::ENTRY_LENGTH, 24 + 112 * count);
     put_u16(rooms, regions::ENTRY + 4, wire::kind::TIMEOUT_CERTIFICATE);
     put_u16(rooms, regions::ENTRY + 16, count);
+}
+
+fn put_settings(rooms: &mut Rooms, numbers: [u64; 3]) {
+    for (place, number) in numbers.into_iter().enumerate() {
+        put_u16(rooms, 2 * place, number as u16);
+    }
 }
 
 fn put_u16(rooms: &mut Rooms, at: usize, number: u16) {

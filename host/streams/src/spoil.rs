@@ -189,7 +189,7 @@ impl Maker<'_> {
 
     /// Inner timeouts in a wrong order, of another view, too few, or not good.
     fn spoil_timeouts(&mut self, record: &mut Vec<u8>) {
-        let Some((first, count)) = timeouts_at(record).filter(|(_, count)| *count > 1) else {
+        let Some((first, count)) = timeouts_at(record).filter(|(_, count)| *count > 0) else {
             return self.spoil_fields(record);
         };
         let one = first + wire::TIMEOUT * self.random.index(count);

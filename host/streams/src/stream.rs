@@ -1,71 +1,11 @@
 //! A stream of calls: moods that last a while, good calls and spoiled ones.
 
-use oracle::{Leaders, Replica, Settings, View};
+use oracle::{Replica, View};
 
 use crate::call::Call;
 use crate::good::Maker;
 use crate::leaders::next_led;
 use crate::random::Random;
-
-/// Settings that streams are opened with: 01's three, f = 0, and others with k > 0.
-pub const SETTINGS: [(u64, u64, u64); 7] =
-    [(1, 1, 0), (2, 2, 2), (7, 5, 0), (0, 4, 0), (0, 3, 0), (2, 3, 2), (3, 4, 1)];
-
-/// The five numbers of an opening, and its leader list.
-#[derive(Clone, Copy, Debug, PartialEq, Eq)]
-pub struct Opening {
-    pub f: u64,
-    pub c: u64,
-    pub k: u64,
-    pub n: u64,
-    pub own: u64,
-    pub leaders: Leaders,
-}
-
-impl Opening {
-    /// None where the settings or the own number are refused. The list is 0 to n−1.
-    pub fn new(f: u64, c: u64, k: u64, own: u64) -> Option<Opening> {
-        let settings = Settings::new(f, c, k)?;
-        let n = u64::from(settings.n());
-        (own < n).then_some(Opening { f, c, k, n, own, leaders: Leaders::in_turn(settings) })
-    }
-
-    /// One of `SETTINGS`, and any own number. The list is 0 to n−1, the one that the run program opens with.
-    pub fn seeded(seed: u64) -> Opening {
-        let mut random = Random::new(seed ^ 0x6F70_656E);
-        let (f, c, k) = random.pick(&SETTINGS);
-        let n = 3 * f + 2 * c + k + 1;
-        Opening::new(f, c, k, random.below(n)).expect("good settings")
-    }
-
-    /// The same with a list that follows from the seed too.
-    pub fn seeded_led(seed: u64) -> Opening {
-        Opening::seeded(seed).led(&mut Random::new(seed ^ 0x006C_6561_6473))
-    }
-
-    /// Any settings that are taken, among them those by which two names of a view can both have enough commits
-    /// (k > f), and any own number.
-    pub fn any(random: &mut Random) -> Opening {
-        loop {
-            let (f, c) = (random.below(10), random.below(16));
-            let k = random.below(2 * f + c + 1);
-            let own = random.below(Settings::MAX_N as u64);
-            if let Some(opening) = Opening::new(f, c, k, own) {
-                return opening;
-            }
-        }
-    }
-
-    pub fn open(&self) -> Replica {
-        let [f, c, k, n, own] = self.numbers();
-        Replica::open(f, c, k, n, own, self.leaders.list()).expect("settings and a list that opening takes")
-    }
-
-    /// f, c, k, n and own.
-    pub fn numbers(&self) -> [u64; 5] {
-        [self.f, self.c, self.k, self.n, self.own]
-    }
-}
 
 /// What calls are likely for a while.
 #[derive(Clone, Copy, Debug, PartialEq, Eq)]
@@ -226,7 +166,7 @@ impl Stream {
 
 impl Maker<'_> {
     fn call(&mut self, action: Action, spoiled: bool) -> Call {
-        let mut record = match action {
+        let mut record = match self.possible(action) {
             Action::Timer => return Call::Timer(self.timer_view(spoiled)),
             Action::Propose if self.may_propose() || self.random.chance(20) => {
                 return Call::Propose(self.proposed_name(spoiled));
@@ -250,6 +190,16 @@ impl Maker<'_> {
             self.spoil(&mut record);
         }
         Call::Record(record)
+    }
+
+    /// In a cluster of one no other replica votes, commits, times out or proposes: mostly another action stands in.
+    fn possible(&mut self, action: Action) -> Action {
+        use Action::*;
+        let by_another = matches!(action, Vote | Commit | Timeout | Proposal | DecidingVote | DecidingCommit);
+        if self.settings().n() > 1 || !by_another || self.random.chance(10) {
+            return action;
+        }
+        self.random.pick(&[Propose, Timer, Block, BlockCertificate, TimeoutCertificate])
     }
 
     /// What comes next where all goes well: a proposal, then votes for it, and commits for the lock.

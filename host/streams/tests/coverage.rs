@@ -12,6 +12,16 @@ fn every_reachable_answer_and_path_comes_up() {
     assert_eq!(coverage.missing(), [], "reachable pairs (kind, answer)");
     assert_eq!(coverage.unlisted(), [], "pairs that 01's table doesn't have");
     assert_eq!(coverage.missing_paths(), [Path::LedByNobody], "opening refuses such a list");
+    for (path, times) in [
+        (Path::NoByzantine, 10_000),
+        (Path::AboveBound, 20_000),
+        (Path::DecidedAlone, 500),
+        (Path::TimedOutAlone, 200),
+        (Path::EchoAndCertificate, 200),
+        (Path::CertificateAndFastRelease, 50),
+    ] {
+        assert!(coverage.of_path(path) > times, "{path:?}: {}", coverage.of_path(path));
+    }
     assert!(coverage.accepted_percent() >= 30, "{} % accepted", coverage.accepted_percent());
 }
 

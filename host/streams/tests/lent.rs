@@ -13,6 +13,7 @@ fn calls_on_garbage_come_upon_every_rule_and_answer() {
     assert!(calls.calls() > 15_000 && calls.accepted_percent() >= 30);
     assert!(coverage.ran.iter().all(|&times| times > 300), "every rule ran often: {:?}", coverage.ran);
     assert!(coverage.turned_away > 30 && coverage.turned_away < 200);
+    assert!(coverage.too_many > 5, "{} states with an n over 32", coverage.too_many);
     assert!(coverage.openings.iter().all(|&times| times > 0));
     assert!(Path::ALL.into_iter().all(|path| calls.of_path(path) > 0), "{:?}", calls.missing_paths());
     assert!(Kind::ALL[..9].iter().all(|kind| calls.of(*kind, 0) > 50));
