@@ -73,6 +73,8 @@ pub enum Row {
     RuleB,
     RuleC,
     RuleD,
+    AThenB,
+    CThenD,
     FastRelease,
     SlowRelease,
     BothReleases,
@@ -102,11 +104,13 @@ pub enum Row {
 }
 
 impl Row {
-    const ALL: [(Row, &'static str); 30] = [
+    const ALL: [(Row, &'static str); 32] = [
         (Row::RuleA, "rule A: timeout echoed"),
         (Row::RuleB, "rule B: timeout certificate formed"),
         (Row::RuleC, "rule C: block certificate formed (and sent)"),
         (Row::RuleD, "rule D: walks"),
+        (Row::AThenB, "rules A and B by one timeout"),
+        (Row::CThenD, "rule C and a fast release by one vote"),
         (Row::FastRelease, "release by votes alone (fast)"),
         (Row::SlowRelease, "release by commits alone (slow)"),
         (Row::BothReleases, "release by votes and commits at once"),
@@ -187,9 +191,18 @@ impl Coverage {
     pub fn accepted(&mut self, protocol: &Protocol, view: u64, call: &Call<'_>, output: &[u8]) {
         let event = self.event(protocol, view, call);
         let count = |wanted| wire::records(output).filter(|record| wire::kind_of(record) == wanted).count() as u64;
-        self.add(Row::RuleA, count(kind::TIMEOUT) - event.timeouts);
-        self.add(Row::RuleB, count(kind::TIMEOUT_CERTIFICATE) - event.timeout_certificates);
+        let echoed = count(kind::TIMEOUT) - event.timeouts;
+        let formed = count(kind::TIMEOUT_CERTIFICATE) - event.timeout_certificates;
+        self.add(Row::RuleA, echoed);
+        self.add(Row::RuleB, formed);
         self.add(Row::RuleC, count(kind::BLOCK_CERTIFICATE) - event.block_certificates);
+        match call {
+            Call::Record(bytes) if wire::kind_of(bytes) == kind::TIMEOUT => self.add(Row::AThenB, echoed.min(formed)),
+            Call::Record(bytes) if wire::kind_of(bytes) == kind::VOTE => {
+                self.add(Row::CThenD, u64::from(releases_fast_what_it_forms(protocol, output)));
+            }
+            _ => {}
+        }
         self.add(Row::EnteredByBlock, count(kind::BLOCK_CERTIFICATE));
         self.add(Row::EnteredByTimeouts, count(kind::TIMEOUT_CERTIFICATE));
         let formed = wire::records(output).filter(|record| wire::kind_of(record) == kind::TIMEOUT_CERTIFICATE);
@@ -236,6 +249,17 @@ impl Coverage {
         };
         self.add(row, 1);
     }
+}
+
+/// Whether a vote's call forms a block certificate with signers enough for a fast release, and releases.
+fn releases_fast_what_it_forms(protocol: &Protocol, output: &[u8]) -> bool {
+    let any = |fits: &dyn Fn(&[u8]) -> bool| wire::records(output).any(fits);
+    let is_release = |record: &[u8]| wire::kind_of(record) == kind::RELEASE;
+    let is_enough = |record: &[u8]| match wire::read(record, protocol.settings.n()) {
+        Ok(Record::BlockCertificate { certificate, .. }) => certificate.signers.count_ones() >= protocol.quorums.fast,
+        _ => false,
+    };
+    any(&is_enough) && any(&is_release)
 }
 
 /// What an event sends by itself, before the rules.

@@ -15,6 +15,7 @@ mod random;
 mod rounds;
 pub mod scenarios;
 mod script;
+pub mod settings;
 pub mod words;
 
 pub use crate::core::{Core, Proved};
@@ -27,3 +28,4 @@ pub use plan::{Failure, Plan, Style};
 pub use random::Random;
 pub use rounds::Rounds;
 pub use script::Script;
+pub use settings::Family;

@@ -4,21 +4,24 @@ use std::process::ExitCode;
 use std::time::Instant;
 
 use oracle::{help, Faults, Leaders, Protocol, Replica, Settings};
-use sim::{scenarios, Core, Coverage, Plan, Proved, Script, Style};
+use sim::{scenarios, settings, Core, Coverage, Family, Plan, Proved, Script, Style};
 
 const USAGE: &str = "\
 usage: sim [--calls N] [--seed S] [--settings f,c,k].. [--leaders LIST] [--longest N] [--style STYLE] [--core CORE]
            [--fault NAME]..
        sim --scenario NAME
-  --calls N         random calls over all settings, 1,000,000 if not given
+  --calls N         random calls in all, 1,000,000 if not given
   --seed S          what is drawn follows from it, 1 if not given
-  --settings f,c,k  these settings in place of the usual six; may be given several times
-  --leaders LIST    the leader list of all runs, such as 0,1,0,2; each run draws its own if not given
+  --settings f,c,k  these settings; may be given several times. If not given, each run draws one of all that opening
+                    takes, family by family
+  --leaders LIST    the leader list of all runs, such as 0,1,0,2, in clusters that it fits; each run draws its own if
+                    not given
   --longest N       the most calls of one run, 400 for each replica if not given
   --style STYLE     how runs are drawn: network, rounds, both (by turns, if not given), or old-states
   --core CORE       the replicas: oracle (if not given) or library, the proved one
   --fault NAME      an error built into the honest replicas, of the oracle only; may be given several times
-  --scenario NAME   the scripted run for a fault, or `resume`, call by call in words: with the error and without it
+  --scenario NAME   the scripted run for a fault in the cluster of six, or `resume`, call by call in words: with the error
+                    and without it; `ten-NAME` for p-from-c-k-2 and the quorums in the cluster of ten
   --help            prints this
 `run --help` has the names of the faults.";
 
@@ -26,6 +29,7 @@ struct Options {
     calls: u64,
     seed: u64,
     longest: Option<u64>,
+    /// Empty for all that opening takes.
     settings: Vec<Settings>,
     /// The leader list of all runs; they draw their own if it is empty.
     leaders: Vec<u8>,
@@ -36,7 +40,37 @@ struct Options {
     library: bool,
 }
 
-fn settings(text: &str) -> Option<Settings> {
+/// Settings whose runs get a line of their own.
+struct Group {
+    words: String,
+    settings: Vec<Settings>,
+}
+
+impl Options {
+    /// The settings given, each by itself, or all that fit, family by family.
+    fn groups(&self) -> Vec<Group> {
+        let words = |it: Settings| format!("({},{},{}) n {}", it.f(), it.c(), it.k(), it.n());
+        let given = self.settings.iter().map(|settings| Group { words: words(*settings), settings: vec![*settings] });
+        if self.settings.is_empty() {
+            Family::ALL.iter().map(|family| self.group_of(*family)).filter(|group| !group.settings.is_empty()).collect()
+        } else {
+            given.collect()
+        }
+    }
+
+    fn group_of(&self, family: Family) -> Group {
+        let mut settings = family.settings();
+        settings.retain(|settings| self.fit(*settings));
+        Group { words: family.words().to_string(), settings }
+    }
+
+    /// Whether a cluster takes the leader list, if one is given.
+    fn fit(&self, settings: Settings) -> bool {
+        self.leaders.is_empty() || Leaders::new(&self.leaders, settings).is_some()
+    }
+}
+
+fn read_settings(text: &str) -> Option<Settings> {
     let numbers: Vec<u64> = text.split(',').map(|number| number.parse().ok()).collect::<Option<_>>()?;
     match numbers[..] {
         [f, c, k] => Settings::new(f, c, k),
@@ -72,7 +106,7 @@ fn options(mut arguments: impl Iterator<Item = String>) -> Option<Options> {
             "--calls" => options.calls = value.parse().ok()?,
             "--seed" => options.seed = value.parse().ok()?,
             "--longest" => options.longest = Some(value.parse().ok()?),
-            "--settings" => options.settings.push(settings(&value)?),
+            "--settings" => options.settings.push(read_settings(&value)?),
             "--leaders" => {
                 options.leaders = value.split(',').map(|number| number.parse().ok()).collect::<Option<_>>()?
             }
@@ -86,13 +120,8 @@ fn options(mut arguments: impl Iterator<Item = String>) -> Option<Options> {
     if options.library && options.faults != Faults::NONE {
         return None;
     }
-    if options.settings.is_empty() {
-        let usual = ["1,1,0", "0,4,0", "2,2,2", "1,2,0", "2,1,2", "7,5,0"];
-        options.settings = usual.iter().filter_map(|text| settings(text)).collect();
-    }
-    let taken = |settings: &Settings| Leaders::new(&options.leaders, *settings).is_some();
-    let given = !options.leaders.is_empty();
-    (!given || options.settings.iter().all(taken)).then_some(options)
+    let fits = options.settings.iter().all(|settings| options.fit(*settings));
+    (fits && !options.groups().is_empty()).then_some(options)
 }
 
 fn main() -> ExitCode {
@@ -117,19 +146,20 @@ fn main() -> ExitCode {
 fn explore<C: Core>(options: &Options, opening: C::Options) -> bool {
     let mut coverage = Coverage::default();
     let mut good = true;
-    for &settings in &options.settings {
-        let protocol = Protocol::new(settings, options.faults);
+    let groups = options.groups();
+    for group in &groups {
         let plan: Plan<C> = Plan {
             options: opening,
-            protocol,
-            leaders: Leaders::new(&options.leaders, settings),
+            faults: options.faults,
+            settings: group.settings.clone(),
+            leaders: Leaders::new(&options.leaders, group.settings[0]),
             seed: options.seed,
-            calls: options.calls / options.settings.len() as u64,
-            longest: options.longest.unwrap_or(Plan::<C>::usual_longest(&protocol)),
+            calls: options.calls / groups.len() as u64,
+            longest: options.longest,
             style: options.style,
         };
         let start = Instant::now();
-        print!("({},{},{}) n {}: ", settings.f(), settings.c(), settings.k(), settings.n());
+        print!("{}: ", group.words);
         match plan.play(&mut coverage) {
             Ok(calls) => println!("{calls} calls, one chain, {:.1} s", start.elapsed().as_secs_f64()),
             Err(failure) => {
@@ -145,23 +175,23 @@ fn explore<C: Core>(options: &Options, opening: C::Options) -> bool {
 
 /// A scripted run in words; false if there is none of that name.
 fn tell(name: &str) -> bool {
-    let protocol = |faults| Protocol::new(Settings::new(1, 1, 0).expect("the cluster of six"), faults);
     if name == "resume" {
+        let protocol = Protocol::new(settings::six(), Faults::NONE);
         for (title, old_state) in [("from an old state", true), ("from the last finished call", false)] {
-            let mut script: Script<Replica> = Script::open(Faults::NONE, protocol(Faults::NONE), &[0]);
+            let mut script: Script<Replica> = Script::open(Faults::NONE, protocol, &[0]);
             scenarios::resume(&mut script, old_state);
             print_script(&format!("resume {title}"), &script);
         }
         return true;
     }
-    let Some(scenario) = scenarios::all::<Replica>().into_iter().find(|scenario| scenario.fault == name) else {
+    let Some(scenario) = scenarios::all::<Replica>().into_iter().find(|scenario| scenario.name == name) else {
         eprintln!("no scenario {name}");
         return false;
     };
     let mut faults = Faults::NONE;
-    faults.set(name);
-    print_script(&format!("with {name}"), &scenarios::play(&scenario, faults, protocol(faults)));
-    print_script(&format!("without {name}"), &scenarios::play(&scenario, Faults::NONE, protocol(Faults::NONE)));
+    faults.set(scenario.fault);
+    print_script(&format!("with {name}"), &scenarios::play(&scenario, faults, faults));
+    print_script(&format!("without {name}"), &scenarios::play(&scenario, Faults::NONE, Faults::NONE));
     true
 }
 

@@ -349,8 +349,9 @@ impl<C: Core> Run<C> {
         leads && !self.has_timed_out(replica) && self.proposed[replica] != view
     }
 
+    /// In the cluster of one each proposal ends its view, and the next view's is due at once.
     fn propose_in_turn(&mut self, replica: usize) {
-        if self.is_turn(replica) && self.random.chance(900) {
+        while self.is_turn(replica) && self.random.chance(900) {
             self.propose(replica);
         }
     }
@@ -358,8 +359,9 @@ impl<C: Core> Run<C> {
     fn propose(&mut self, replica: usize) {
         self.proposed[replica] = self.cluster.view(replica);
         let name = self.random.name();
-        let outcome = self.cluster.propose(replica, name);
-        self.after(replica, outcome);
+        if self.cluster.propose(replica, name) == Outcome::Accepted {
+            self.send_all(replica);
+        }
     }
 
     // ------------------------------------------------------------ hosts

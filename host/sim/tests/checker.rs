@@ -1,9 +1,7 @@
 //! The checker itself: it sees every way in which the claim can fail, and keeps to the premises.
 
-use oracle::{
-    wire, Block, Certificate, Faults, Height, Leaders, Name, Protocol, Replica, Settings, View, Vote, GENESIS,
-};
-use sim::{Cluster, Core, Outcome, Rows, Violation};
+use oracle::{wire, Block, Certificate, Faults, Height, Leaders, Name, Protocol, Replica, View, Vote, GENESIS};
+use sim::{settings, Cluster, Core, Outcome, Rows, Violation};
 
 const A: Name = [b'A'; 32];
 const B: Name = [b'B'; 32];
@@ -52,7 +50,7 @@ fn two_chains_are_seen() {
 
 /// The cluster of six with replica 0 Byzantine.
 fn six() -> Cluster<Replica> {
-    let settings = Settings::new(1, 1, 0).unwrap();
+    let settings = settings::six();
     Cluster::open(Faults::NONE, Protocol::new(settings, Faults::NONE), Leaders::in_turn(settings), 1)
 }
 

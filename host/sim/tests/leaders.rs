@@ -1,22 +1,26 @@
 //! Clusters that were opened with a leader list other than 0 to n−1, over the oracle and over the proved library.
 
-use oracle::{Faults, Leaders, Protocol, Replica, Settings};
+use oracle::{Faults, Leaders, Protocol, Replica};
+use sim::settings::six;
 use sim::{Core, Coverage, Plan, Proved, Row, Script, Style};
 
-fn six() -> Protocol {
-    Protocol::new(Settings::new(1, 1, 0).unwrap(), Faults::NONE)
-}
-
 fn leaders(list: &[u8]) -> Leaders {
-    Leaders::new(list, six().settings).expect("a list that is taken")
+    Leaders::new(list, six()).expect("a list that is taken")
 }
 
 /// Random runs over a list: one chain, and blocks are released.
 fn play<C: Core>(options: C::Options, list: &[u8]) -> Coverage {
     let mut coverage = Coverage::default();
-    let leaders = Some(leaders(list));
-    let plan: Plan<C> =
-        Plan { options, protocol: six(), leaders, seed: 5, calls: 60_000, longest: 2_400, style: Style::Both };
+    let plan: Plan<C> = Plan {
+        options,
+        faults: Faults::NONE,
+        settings: vec![six()],
+        leaders: Some(leaders(list)),
+        seed: 5,
+        calls: 60_000,
+        longest: None,
+        style: Style::Both,
+    };
     plan.play(&mut coverage).expect("one chain");
     assert!(coverage.count(Row::RuleD) > 300, "{list:?}: {} walks", coverage.count(Row::RuleD));
     coverage
@@ -45,7 +49,7 @@ fn clusters_go_on_where_an_honest_replica_leads() {
 }
 
 fn heals<C: Core>(options: C::Options, list: &[u8], byzantine: &[usize]) -> bool {
-    let mut script: Script<C> = Script::open_led(options, six(), leaders(list), byzantine);
+    let mut script: Script<C> = Script::open_led(options, Protocol::new(six(), Faults::NONE), leaders(list), byzantine);
     let healed = script.heal();
     assert!(script.cluster.rows().is_one_chain());
     healed

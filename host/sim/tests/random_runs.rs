@@ -1,47 +1,71 @@
 //! Random runs: one chain in every one of them, and everything in the coverage table reached.
 
-use oracle::{Faults, Protocol, Replica, Settings};
-use sim::{Coverage, Failure, Plan, Style};
+use oracle::{Faults, Replica, Settings};
+use sim::{settings, Coverage, Failure, Family, Plan, Row, Style};
 
-fn plan(settings: (u64, u64, u64), faults: Faults, seed: u64, calls: u64) -> Plan<Replica> {
-    let (f, c, k) = settings;
-    let protocol = Protocol::new(Settings::new(f, c, k).unwrap(), faults);
-    let longest = Plan::<Replica>::usual_longest(&protocol);
-    Plan { options: faults, protocol, leaders: None, seed, calls, longest, style: Style::Both }
+fn plan(settings: Vec<Settings>, faults: Faults, seed: u64, calls: u64) -> Plan<Replica> {
+    Plan { options: faults, faults, settings, leaders: None, seed, calls, longest: None, style: Style::Both }
 }
 
-/// f = 0, k > 0, thirteen replicas and the largest cluster are among them.
-const SETTINGS: [(u64, u64, u64); 6] = [(1, 1, 0), (0, 4, 0), (2, 2, 2), (1, 2, 0), (2, 1, 2), (7, 5, 0)];
+/// What runs without an error reach, all on one chain.
+fn covered(settings: Vec<Settings>, seed: u64, calls: u64) -> Coverage {
+    let mut coverage = Coverage::default();
+    let made = plan(settings, Faults::NONE, seed, calls).play(&mut coverage).expect("one chain");
+    assert!(made >= calls);
+    coverage
+}
 
 #[test]
 fn a_million_calls_one_chain() {
-    let mut coverage = Coverage::default();
-    let mut calls = 0;
-    for settings in SETTINGS {
-        calls += plan(settings, Faults::NONE, 2024, 200_000).play(&mut coverage).expect("one chain");
+    let mut all = Coverage::default();
+    for family in Family::ALL {
+        let coverage = covered(family.settings(), 2024, 300_000);
+        for row in [Row::FastRelease, Row::SlowRelease, Row::RuleA, Row::RuleB, Row::RuleC] {
+            assert!(coverage.count(row) > 200, "{family:?}: {} times {row:?}", coverage.count(row));
+        }
+        assert_eq!(coverage.count(Row::Lies) > 0, family != Family::NobodyLies, "{family:?}");
+        all.merge(&coverage);
     }
-    println!("{coverage}");
-    assert!(calls >= 1_000_000);
+    println!("{all}");
     // 2 is about regions: calls leave a sound state, and the output of this implementation grows as needed.
-    assert_eq!(coverage.empty_rows(), ["answer 2"]);
+    assert_eq!(all.empty_rows(), ["answer 2"]);
+}
+
+/// One replica decides alone: each block certificate that it forms is a release, by its own vote and commit.
+#[test]
+fn the_cluster_of_one_releases_what_it_proposes() {
+    let coverage = covered(vec![settings::one()], 3, 30_000);
+    println!("{coverage}");
+    assert!(coverage.count(Row::BothReleases) > 20_000);
+    assert_eq!(coverage.count(Row::BothReleases), coverage.count(Row::RuleC));
+    assert_eq!(coverage.count(Row::BothReleases), coverage.count(Row::RuleD));
+    assert!(coverage.count(Row::RuleB) > 1_000);
+}
+
+/// What 02's 2.2 lets in: clusters in which f+1 timeouts and one's own are a certificate, and clusters in which a fast
+/// release takes no more votes than a block certificate.
+#[test]
+fn two_rules_run_in_one_call() {
+    let echoes = [(0, 0, 1), (0, 1, 0), (1, 0, 0)].map(|triple| (triple, Row::AThenB));
+    let releases = [(0, 0, 2), (0, 1, 1), (0, 1, 29), (0, 0, 31)].map(|triple| (triple, Row::CThenD));
+    for ((f, c, k), row) in echoes.into_iter().chain(releases) {
+        let coverage = covered(vec![Settings::new(f, c, k).unwrap()], 7, 60_000);
+        assert!(coverage.count(row) > 20, "({f},{c},{k}): {} times {row:?}", coverage.count(row));
+    }
 }
 
 #[test]
 fn the_same_seed_gives_the_same_run() {
-    let table = |seed| {
-        let mut coverage = Coverage::default();
-        plan((1, 1, 0), Faults::NONE, seed, 20_000).play(&mut coverage).expect("one chain");
-        coverage.to_string()
-    };
+    let table = |seed| covered(settings::all(), seed, 20_000).to_string();
     assert_eq!(table(5), table(5));
     assert_ne!(table(5), table(6));
 }
 
 /// The first failure of short runs in rounds with an error built in.
-fn search(settings: (u64, u64, u64), fault: &str, calls: u64) -> Result<u64, Failure> {
+fn search(settings: Settings, fault: &str, calls: u64) -> Result<u64, Failure> {
     let mut faults = Faults::NONE;
     assert!(faults.set(fault));
-    let short = Plan { longest: 400, style: Style::Rounds, ..plan(settings, faults, 1, calls) };
+    let short = Plan { longest: Some(400), style: Style::Rounds, ..plan(vec![settings], faults, 1, calls) };
     short.play(&mut Coverage::default())
 }
 
@@ -56,15 +80,18 @@ fn random_runs_find_errors() {
         "block-quorum-lower",
         "timeout-quorum-lower",
     ] {
-        let failure = search((1, 1, 0), fault, 10_000_000).expect_err(fault);
-        println!("{fault}: {failure:?}");
+        for settings in [settings::six(), settings::ten()] {
+            let failure = search(settings, fault, 10_000_000).expect_err(fault);
+            println!("{fault}: {failure:?}");
+        }
     }
 }
 
 /// The replicas are right, but their hosts resume from older states than the last finished call left.
 #[test]
 fn random_runs_find_old_states() {
-    let short = Plan { longest: 400, style: Style::OldStates, ..plan((1, 1, 0), Faults::NONE, 1, 10_000_000) };
+    let runs = plan(vec![settings::six()], Faults::NONE, 1, 10_000_000);
+    let short = Plan { longest: Some(400), style: Style::OldStates, ..runs };
     let failure = short.play(&mut Coverage::default()).expect_err("two chains");
     println!("{failure:?}");
 }
@@ -74,7 +101,9 @@ fn random_runs_find_old_states() {
 #[ignore = "longer; run with --ignored"]
 fn longer_random_runs_find_all_errors() {
     for fault in Faults::NAMES {
-        let failure = search((1, 1, 0), fault, 100_000_000).expect_err(fault);
-        println!("{fault}: {failure:?}");
+        for settings in [settings::six(), settings::ten()] {
+            let failure = search(settings, fault, 100_000_000).expect_err(fault);
+            println!("{fault}: {failure:?}");
+        }
     }
 }

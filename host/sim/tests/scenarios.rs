@@ -1,19 +1,13 @@
 //! Scripted runs: two chains with an error, one chain without it.
 
+use std::collections::BTreeSet;
+
 use oracle::{Faults, Protocol, Replica, Settings};
-use sim::scenarios::{self, Ends, Scenario};
-use sim::{Script, Violation};
-
-fn six(faults: Faults) -> Protocol {
-    Protocol::new(Settings::new(1, 1, 0).unwrap(), faults)
-}
-
-fn play(scenario: &Scenario<Replica>, faults: Faults) -> Script<Replica> {
-    scenarios::play(scenario, faults, six(faults))
-}
+use sim::scenarios::{self, Ends};
+use sim::{settings, Script, Violation};
 
 fn play_resume(old_state: bool) -> Script<Replica> {
-    let mut script = Script::open(Faults::NONE, six(Faults::NONE), &[0]);
+    let mut script = Script::open(Faults::NONE, Protocol::new(settings::six(), Faults::NONE), &[0]);
     scenarios::resume(&mut script, old_state);
     script
 }
@@ -52,8 +46,8 @@ fn each_error_gives_two_chains() {
     for scenario in scenarios::all::<Replica>() {
         let mut faults = Faults::NONE;
         assert!(faults.set(scenario.fault));
-        println!("{}", scenario.fault);
-        let script = play(&scenario, faults);
+        println!("{}", scenario.name);
+        let script = scenarios::play(&scenario, faults, faults);
         assert_two_chains(&script);
         assert_ends(&script, scenario.wrong);
     }
@@ -62,20 +56,25 @@ fn each_error_gives_two_chains() {
 #[test]
 fn without_the_error_there_is_one_chain() {
     for scenario in scenarios::all::<Replica>() {
-        println!("{}", scenario.fault);
-        let mut script = play(&scenario, Faults::NONE);
+        println!("{}", scenario.name);
+        let mut script = scenarios::play(&scenario, Faults::NONE, Faults::NONE);
         assert_ends(&script, scenario.right);
         assert_one_chain_and_goes_on(&mut script);
     }
 }
 
+/// The errors that have a scenario with these settings.
+fn faults_in(settings: Settings) -> BTreeSet<&'static str> {
+    let all = scenarios::all::<Replica>().into_iter();
+    all.filter(|scenario| scenario.settings == settings).map(|scenario| scenario.fault).collect()
+}
+
+/// In the cluster of six; in the cluster of ten those that are about counting.
 #[test]
 fn every_error_has_its_scenario() {
-    let mut faults: Vec<_> = scenarios::all::<Replica>().iter().map(|scenario| scenario.fault).collect();
-    let mut names = Faults::NAMES.to_vec();
-    faults.sort();
-    names.sort();
-    assert_eq!(faults, names);
+    assert_eq!(faults_in(settings::six()), BTreeSet::from(Faults::NAMES));
+    let counts = |name: &&str| *name == "p-from-c-k-2" || name.ends_with("-quorum-lower");
+    assert_eq!(faults_in(settings::ten()), Faults::NAMES.into_iter().filter(counts).collect());
 }
 
 #[test]

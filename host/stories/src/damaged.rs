@@ -3,17 +3,16 @@
 use oracle::GENESIS;
 
 use crate::make::*;
-use crate::{StoredRun, Told};
+use crate::{call, StoredRun, Told};
 
 pub fn run() -> StoredRun {
     let about =
         "replica 3: records damaged in many ways between good ones, which go on to a release; at the end a record \
                  that is cut short";
-    StoredRun::told("damaged", about, 3, calls())
+    StoredRun::told("damaged", about, SIX, 3, calls())
 }
 
 fn calls() -> Vec<Told> {
-    let call = |answer, about, record| Told { record, answer, about };
     let shown = proposal(0, 1, block(A, GENESIS, 1), &genesis_certificate(0));
     vec![
         call(5, "a proposal whose inner certificate has another sender", sent_by_inner(shown.clone(), 2)),
@@ -38,7 +37,7 @@ fn calls() -> Vec<Told> {
         call(4, "a timeout certificate with a vote among its timeouts", with(timeouts(0, 1, &[0, 1, 2, 4]), 28, &[1])),
         call(9, "a timeout certificate with three timeouts", timeouts(0, 1, &[0, 1, 4])),
         call(4, "a header alone, of kind 0", vec![8, 0, 0, 0, 0, 0, 0, 0]),
-        call(4, "a second opening", opening(3)),
+        call(4, "a second opening", opening(SIX, 3)),
         call(6, "a timer with a sender", sent_by(timer(1), 1)),
         call(6, "a propose with a sender", sent_by(propose(B), 1)),
         call(13, "a block with its height overwritten", block_record(0, B, GENESIS, 1 << 32)),

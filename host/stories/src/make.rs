@@ -1,4 +1,4 @@
-//! Records for the cluster of six, by short names.
+//! Settings and records, by short names.
 
 use oracle::wire;
 use oracle::{Block, Certificate, Height, Name, Timeout, View, Vote, GENESIS};
@@ -8,6 +8,13 @@ pub const B: Name = [b'B'; 32];
 pub const C: Name = [b'C'; 32];
 pub const D: Name = [b'D'; 32];
 pub const E: Name = [b'E'; 32];
+pub const F: Name = [b'F'; 32];
+
+/// f, c, k and n.
+pub type Numbers = [u16; 4];
+pub const ONE: Numbers = [0, 0, 0, 1];
+pub const SIX: Numbers = [1, 1, 0, 6];
+pub const TEN: Numbers = [1, 2, 2, 10];
 
 /// Replicas 0 to 3: a block quorum of six.
 pub const FOUR: u64 = 0b1111;
@@ -21,9 +28,8 @@ fn record(write: impl FnOnce(&mut Vec<u8>)) -> Vec<u8> {
     bytes
 }
 
-/// The opening of a replica of six.
-pub fn opening(own: u16) -> Vec<u8> {
-    record(|out| wire::write_opening(out, [1, 1, 0, 6, own]))
+pub fn opening([f, c, k, n]: Numbers, own: u16) -> Vec<u8> {
+    record(|out| wire::write_opening(out, [f, c, k, n, own]))
 }
 
 pub fn timer(view: u64) -> Vec<u8> {
@@ -50,16 +56,25 @@ pub fn genesis_certificate(sender: u16) -> Vec<u8> {
     certificate(sender, 0, GENESIS, 0)
 }
 
-/// A timeout with the genesis certificate; no high vote if its view is 0.
+/// A timeout without a high vote, with the genesis certificate.
 pub fn timeout(sender: u16, view: u64) -> Vec<u8> {
-    let it = Timeout { sender, view: View(view), high_vote: Vote::NONE, certificate: Certificate::GENESIS };
-    wire::raw_timeout(&it).to_vec()
+    timeout_with(sender, view, Vote::NONE, Certificate::GENESIS)
 }
 
-/// Timeouts of these senders without high vote, in the order given.
-pub fn timeouts(sender: u16, view: u64, senders: &[u16]) -> Vec<u8> {
-    let inner: Vec<Timeout> = senders.iter().map(|from| wire::read_timeout(&timeout(*from, view))).collect();
+pub fn timeout_with(sender: u16, view: u64, high_vote: Vote, certificate: Certificate) -> Vec<u8> {
+    wire::raw_timeout(&Timeout { sender, view: View(view), high_vote, certificate }).to_vec()
+}
+
+/// A timeout certificate of these timeouts, in the order given.
+pub fn timeouts_of(sender: u16, view: u64, timeouts: &[Vec<u8>]) -> Vec<u8> {
+    let inner: Vec<Timeout> = timeouts.iter().map(|raw| wire::read_timeout(raw)).collect();
     record(|out| wire::write_timeout_certificate(out, sender, View(view), &inner))
+}
+
+/// The same of timeouts without high votes, by these senders.
+pub fn timeouts(sender: u16, view: u64, senders: &[u16]) -> Vec<u8> {
+    let inner: Vec<Vec<u8>> = senders.iter().map(|from| timeout(*from, view)).collect();
+    timeouts_of(sender, view, &inner)
 }
 
 pub fn block(name: Name, parent: Name, height: u64) -> Block {

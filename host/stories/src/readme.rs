@@ -1,18 +1,19 @@
-//! The folder's README: a table of all runs, and the commented calls of two of them.
+//! The folder's README: a table of all runs, and the commented calls of those that have comments.
 
 use crate::{runs, StoredRun, Told};
 
 const HEAD: &str = "\
 # Stored runs
 
-Written by `cargo run --offline -p stories -- runs` from the folder above; a test asserts that these files are what it writes. All are runs in the
-cluster of six, (f, c, k) = (1, 1, 0): one replica may lie, one may stop.
+Written by `cargo run --offline -p stories -- runs` from the folder above; a test asserts that these files are what it writes. The first are
+runs in the cluster of six, (f, c, k) = (1, 1, 0): one replica may lie, one may stop. At the end are the cluster of ten that document 000
+measures in Section 6, the cluster of one, and settings with which two rules run in one call.
 
 `NAME.bin` is an input for 01's run program and `NAME.txt` is exactly what the program prints for it. Tests compare the oracle's
 program with them, and the proved program too, which they also run on these inputs cut, damaged and in portions.
 
-| run | own number | calls | what it shows |
-|---|---|---|---|
+| run | f, c, k | n | own number | calls | what it shows |
+|---|---|---|---|---|---|
 ";
 
 const STORY: &str = "
@@ -38,9 +39,9 @@ pub fn readme() -> String {
 }
 
 fn run_row(run: &StoredRun) -> String {
-    let own = oracle::wire::u16_at(&run.input, 16);
+    let [f, c, k, n, own] = [8, 10, 12, 14, 16].map(|at| oracle::wire::u16_at(&run.input, at));
     let calls = run.listing().lines().filter(|line| !line.starts_with("call") && !line.starts_with("0 ")).count();
-    format!("| `{}` | {own} | {calls} | {} |\n", run.name, run.about)
+    format!("| `{}` | {f}, {c}, {k} | {n} | {own} | {calls} | {} |\n", run.name, run.about)
 }
 
 /// Calls one after another with the same answer and comment make one row.

@@ -1,26 +1,25 @@
 //! Each refusal of each kind of call, as far as a run of replica 0 of six leads to it, and the opening's.
 
-use oracle::{wire, Name, GENESIS};
+use oracle::{Name, GENESIS};
 
 use crate::make::*;
-use crate::{StoredRun, Told};
+use crate::{call, StoredRun, Told};
 
 pub fn bad_settings() -> StoredRun {
-    let mut input = Vec::new();
-    wire::write_opening(&mut input, [1, 1, 0, 7, 1]);
-    input.extend(timer(1));
+    let input = [opening([1, 1, 0, 7], 1), timer(1)].concat();
     StoredRun::plain("bad-settings", "refusal 1: n is 7, but f, c, k give 6; nothing after it is read", input)
+}
+
+pub fn too_many() -> StoredRun {
+    let input = [opening([8, 4, 0, 33], 1), timer(1)].concat();
+    StoredRun::plain("bad-settings-33", "refusal 1: n is what f, c, k give, but over 32", input)
 }
 
 pub fn run() -> StoredRun {
     let about =
         "replica 0: every refusal from 4 to 15, by each kind of call that can have it; then 3, which ends the run";
     let told = [in_view_1(), leaving_view_1(), in_view_2(), in_view_7(), full(), vec![cut_short()]];
-    StoredRun::told("refusals", about, 0, told.into_iter().flatten().collect())
-}
-
-fn call(answer: u16, about: &'static str, record: Vec<u8>) -> Told {
-    Told { record, answer, about }
+    StoredRun::told("refusals", about, SIX, 0, told.into_iter().flatten().collect())
 }
 
 /// 0 leads view 1 and proposes A.

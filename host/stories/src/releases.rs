@@ -7,7 +7,7 @@ use crate::StoredRun;
 
 pub fn listing() -> StoredRun {
     let calls = [timer(2), timer(1), timer(1), propose([1; 32])];
-    let input = [opening(1), calls.concat()].concat();
+    let input = [opening(SIX, 1), calls.concat()].concat();
     StoredRun::plain(
         "listing",
         "01's listing: a timer too early, on time and again; a proposal by another than the leader",
@@ -23,7 +23,7 @@ pub fn fast() -> StoredRun {
     calls.push(second);
     calls.extend([0, 1, 3, 4, 5].map(|sender| vote(sender, 2, B)));
     let about = "six of six vote, twice: a certificate and a commit by the fourth vote, the release by the sixth";
-    StoredRun::plain("fast-release", about, [opening(2), calls.concat()].concat())
+    StoredRun::plain("fast-release", about, [opening(SIX, 2), calls.concat()].concat())
 }
 
 /// Replica 4 of six. It hears three votes beside its own, then commits; the second block comes after its commits.
@@ -36,5 +36,5 @@ pub fn slow() -> StoredRun {
     calls.push(block_record(3, B, A, 2));
     let about =
         "four votes, then four commits release A; B is committed by four before its block comes, which releases it";
-    StoredRun::plain("slow-release", about, [opening(4), calls.concat()].concat())
+    StoredRun::plain("slow-release", about, [opening(SIX, 4), calls.concat()].concat())
 }

@@ -1,7 +1,7 @@
 //! The story of two blocks for one container, taken from the scripted run that `sim` has for it.
 
-use oracle::{Faults, Protocol, Replica, Settings};
-use sim::{scenarios, Script};
+use oracle::{Faults, Protocol, Replica};
+use sim::{scenarios, settings, Script};
 use view::{Event, Played, Recording, Step};
 
 use crate::make::{commit, vote, B};
@@ -34,7 +34,7 @@ impl Ranking {
     }
 
     fn protocol(self) -> Protocol {
-        Protocol::new(Settings::new(1, 1, 0).expect("the cluster of six"), self.faults())
+        Protocol::new(settings::six(), self.faults())
     }
 
     fn title(self) -> &'static str {
@@ -77,8 +77,8 @@ impl Ranking {
 
 fn script(ranking: Ranking) -> Script<Replica> {
     let all = scenarios::all::<Replica>();
-    let scenario = all.iter().find(|scenario| scenario.fault == Ranking::FAULT).expect("sim has the story");
-    scenarios::play(scenario, ranking.faults(), ranking.protocol())
+    let scenario = all.iter().find(|scenario| scenario.name == Ranking::FAULT).expect("sim has the story");
+    scenarios::play(scenario, ranking.faults(), ranking.faults())
 }
 
 /// The whole story with captions.

@@ -144,7 +144,7 @@ fn inputs_that_are_cut() {
 fn damaged_headers() {
     let mut seen = BTreeSet::new();
     let mut given = BTreeSet::new();
-    for run in stories::runs().iter().filter(|run| run.name != "bad-settings") {
+    for run in stories::runs().iter().filter(|run| !run.name.starts_with("bad-settings")) {
         let mut at = wire::OPENING;
         for record in records(&run.input).into_iter().skip(1) {
             let n = record.len() as u32;
@@ -219,7 +219,9 @@ fn openings() {
     rows.extend([[0, 1, 0, 6, 0], [2, 1, 0, 6, 0], [1, 0, 0, 6, 0], [1, 2, 0, 6, 0], [1, 1, 1, 6, 0]].map(numbers));
     rows.extend([[1, 1, 0, 5, 0], [1, 1, 0, 7, 0], [1, 1, 0, 6, 6], [1, 1, 0, 6, u16::MAX]].map(numbers));
     rows.extend([[257, 1, 0, 6, 0], [1, 257, 0, 6, 0], [1, 1, 256, 6, 0], [1, 1, 0, 262, 0]].map(numbers));
-    rows.extend([[1, 1, 0, 6, 256], [2, 0, 1, 8, 0], [8, 4, 0, 33, 0], [0, 0, 0, 0, 0]].map(numbers));
+    rows.extend(
+        [[1, 1, 0, 6, 256], [8, 4, 0, 33, 0], [0, 0, 32, 33, 0], [0, 0, 0, 0, 0], [0, 0, 0, 1, 1]].map(numbers),
+    );
     rows.extend([timer(), propose(), vote(), longest()].map(|record| ("another record".to_string(), record)));
     rows.extend([23, 25].map(|length| (format!("{length} bytes"), record(length, kind::OPENING, 0))));
     for (about, record) in rows {
@@ -227,9 +229,16 @@ fn openings() {
         assert_eq!(compare(&input, &about), REFUSED, "{about}");
         assert_eq!(compare(&record, &about), REFUSED, "{about}, alone");
     }
-    for numbers in [[1, 1, 0, 6, 5], [2, 2, 2, 13, 12], [7, 5, 0, 32, 31]] {
-        let input = [bytes(|out| wire::write_opening(out, numbers)), timer()].concat();
-        assert_eq!(answers(&compare(&input, &format!("{numbers:?}"))), [0]);
+}
+
+/// Every settings that is taken, with the highest own number.
+#[test]
+fn all_settings_open() {
+    for settings in sim::settings::all() {
+        let [f, c, k, n] = [settings.f(), settings.c(), settings.k(), settings.n()].map(|number| number as u16);
+        let input = [bytes(|out| wire::write_opening(out, [f, c, k, n, n - 1])), timer()].concat();
+        let about = format!("{settings:?}");
+        assert_eq!(answers(&compare(&input, &about)), [0], "{about}");
     }
 }
 
@@ -392,7 +401,7 @@ fn the_lines_do_not_depend_on_the_portions() {
 /// A record's line comes before the next record is written, also where the next one's first bytes are there already.
 #[test]
 fn each_line_comes_before_the_next_record() {
-    for (name, input) in streams_to_arrive().into_iter().filter(|(name, _)| name != "bad-settings") {
+    for (name, input) in streams_to_arrive().into_iter().filter(|(name, _)| !name.starts_with("bad-settings")) {
         let expected = expected(&input);
         for ahead in [0, 1, 7, 8, 15] {
             let about = format!("{name}, {ahead} bytes ahead");

@@ -7,6 +7,11 @@ use std::fs;
 use std::path::PathBuf;
 
 use common::answers;
+use oracle::wire::{self, kind};
+use oracle::{Faults, Protocol, Replica};
+use sim::Proved;
+use stories::StoredRun;
+use view::{Event, Played, Recording, Shown};
 
 fn folder() -> PathBuf {
     PathBuf::from(env!("CARGO_MANIFEST_DIR")).join("../runs")
@@ -82,22 +87,91 @@ fn refusals_has_every_pair_of_kind_and_refusal() {
     ];
     let pairs = |(kind, answers): &(u16, &[u16])| answers.iter().map(|answer| (*kind, *answer)).collect::<Vec<_>>();
     let expected: BTreeSet<(u16, u16)> = expected.iter().flat_map(pairs).collect();
-    let runs = stories::runs();
-    let run = runs.iter().find(|run| run.name == "refusals").expect("the run");
+    let run = run_of("refusals");
     let refused = run.told.iter().filter(|call| call.answer != 0);
     let found: BTreeSet<(u16, u16)> = refused.map(|call| (oracle::wire::kind_of(&call.record), call.answer)).collect();
     assert_eq!(found, expected);
 }
 
+fn run_of(name: &str) -> StoredRun {
+    stories::runs().into_iter().find(|run| run.name == name).expect(name)
+}
+
 #[test]
 fn runs_end_at_their_heights() {
-    let heights =
-        [("fast-release", 2), ("slow-release", 2), ("view-change-keeps-a", 2), ("story-3", 1), ("damaged", 1)];
-    let runs = stories::runs();
+    let heights = [
+        ("fast-release", 2),
+        ("slow-release", 2),
+        ("view-change-keeps-a", 2),
+        ("story-3", 1),
+        ("damaged", 1),
+        ("ten-fast-release", 3),
+        ("ten-slow-release", 3),
+        ("one-replica", 5),
+        ("one-vote-decides", 3),
+        ("one-timeout-decides", 2),
+    ];
     for (name, height) in heights {
-        let run = runs.iter().find(|run| run.name == name).expect(name);
-        let listing = run.listing();
+        let listing = run_of(name).listing();
         let last = listing.lines().last().unwrap();
         assert!(last.ends_with(&format!(" {height}")), "{name}: {last}");
     }
+}
+
+// ---------------------------------------------------------------- what calls write, which no line shows
+
+/// The calls of a run on this replica.
+fn events<C: Shown>(name: &str, options: C::Options) -> Vec<Event> {
+    let recording = Recording::read(&stored(&format!("{name}.bin"))).expect("an input");
+    let protocol = Protocol::new(recording.settings, Faults::NONE);
+    Played::new::<C>(&recording, options, protocol).events
+}
+
+fn kinds(event: &Event) -> Vec<u16> {
+    event.written.iter().map(|record| wire::kind_of(record)).collect()
+}
+
+/// The accepted calls of a run, which the library answers as the oracle does.
+fn accepted(name: &str) -> Vec<Event> {
+    let events = self::events::<Replica>(name, Faults::NONE);
+    assert!(events == self::events::<Proved>(name, ()), "{name}");
+    events.into_iter().filter(Event::is_accepted).collect()
+}
+
+/// The calls that write these kinds, by their numbers.
+fn writing(name: &str, wanted: &[u16]) -> Vec<usize> {
+    let calls = accepted(name).into_iter().filter(|event| kinds(event) == wanted);
+    calls.map(|event| event.index).collect()
+}
+
+/// The eighth vote releases, or the fifth commit; each block certificate came with the sixth vote.
+#[test]
+fn ten_release_by_eight_votes_or_five_commits() {
+    assert_eq!(writing("ten-fast-release", &[3, 2]), [6, 14, 22]);
+    assert_eq!(writing("ten-fast-release", &[9]), [8, 16, 24]);
+    assert_eq!(writing("ten-slow-release", &[3, 2]), [13, 39, 51]);
+    assert_eq!(writing("ten-slow-release", &[9]), [18, 44, 56]);
+    assert_eq!(writing("ten-slow-release", &[6]), [31]); // the seventh timeout
+}
+
+/// 02's 2.2: "a ring of one box included".
+#[test]
+fn one_replica_decides_in_one_call() {
+    for event in accepted("one-replica") {
+        let expected: &[u16] = match event.kind() {
+            Some(kind::PROPOSE) => &[7, 1, 3, 2, 9],
+            Some(kind::TIMER) => &[5, 6],
+            _ => &[],
+        };
+        assert_eq!(kinds(&event), expected, "call {}", event.index);
+    }
+    assert_eq!(writing("one-replica", &[7, 1, 3, 2, 9]), [1, 3, 7, 10, 28]);
+    assert_eq!(writing("one-replica", &[5, 6]), [4, 8, 9]);
+}
+
+#[test]
+fn two_rules_run_in_one_call() {
+    assert_eq!(writing("one-vote-decides", &[3, 2, 9]), [17, 34]);
+    assert_eq!(writing("one-vote-decides", &[1, 3, 2, 9]), [51]);
+    assert_eq!(writing("one-timeout-decides", &[5, 6]), [1]);
 }

@@ -38,7 +38,7 @@ pub fn names() -> Vec<String> {
     let folder = Path::new(env!("CARGO_MANIFEST_DIR")).join("../runs");
     let files = std::fs::read_dir(folder).unwrap().map(|entry| entry.unwrap().file_name().into_string().unwrap());
     let mut names: Vec<String> = files.filter_map(|name| name.strip_suffix(".bin").map(str::to_string)).collect();
-    names.retain(|name| name != "bad-settings");
+    names.retain(|name| !name.starts_with("bad-settings"));
     names.sort();
     assert!(names.len() > 10, "{names:?}");
     names

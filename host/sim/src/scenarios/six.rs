@@ -1,42 +1,21 @@
-//! Scripted runs to two chains, all in the cluster of six: f = 1, c = 1, k = 0. A block certificate takes 4 votes, a
-//! weak one 2, a timeout certificate 4 timeouts, a slow release 4 commits, a fast release 6 votes. At most one replica
-//! is Byzantine, and every record keeps to the premises of 01's "A run of the ring".
-//!
-//! Each script is played twice: with the error built into the honest replicas it ends in two chains, without it in
-//! one. Where a call is refused (the replica knows better) the script just goes on. The leader of view v is replica
-//! v − 1. Names are compared byte by byte, A < B < C; where two certificates are otherwise equal the smaller name
-//! ranks above, so in some scripts the released block has to be B and the other one A.
+//! The cluster of six: f = 1, c = 1, k = 0. A block certificate takes 4 votes, a weak one 2, a timeout certificate 4
+//! timeouts, a slow release 4 commits, a fast release 6 votes.
 
-use oracle::{Name, Protocol, Vote, GENESIS};
+use oracle::{Vote, GENESIS};
 
-use crate::core::Core;
-use crate::script::*;
-
-const A: Name = [b'A'; 32];
-const B: Name = [b'B'; 32];
-const C: Name = [b'C'; 32];
-const D: Name = [b'D'; 32];
-const E: Name = [b'E'; 32];
-const F: Name = [b'F'; 32];
-
-/// Two replicas with their rows of releases at the end, each block by its letter.
-pub type Ends = [(usize, &'static str); 2];
-
-/// A script, with the error by which it gives two chains.
-pub struct Scenario<K: Core> {
-    /// A name of the oracle's flags.
-    pub fault: &'static str,
-    pub byzantine: &'static [usize],
-    pub play: fn(&mut Script<K>),
-    /// The end with the error: two chains.
-    pub wrong: Ends,
-    /// The end without it: one chain.
-    pub right: Ends,
-}
+use super::*;
 
 /// 01's five missteps (the fourth is two: a vote, a commit) and the five quorums one lower.
 pub fn all<K: Core>() -> Vec<Scenario<K>> {
-    let scenario = |fault, byzantine, play, wrong, right| Scenario { fault, byzantine, play, wrong, right };
+    let scenario = |fault, byzantine, play, wrong, right| Scenario {
+        name: fault,
+        fault,
+        settings: settings::six(),
+        byzantine,
+        play,
+        wrong,
+        right,
+    };
     vec![
         scenario("p-from-c-k-2", &[0], p_from_c_k_2, [(4, "A"), (1, "B")], [(4, ""), (1, "AB")]),
         scenario("weak-over-block", &[0], weak_over_block, [(3, "A"), (2, "BC")], [(3, "A"), (2, "AC")]),
@@ -50,37 +29,6 @@ pub fn all<K: Core>() -> Vec<Scenario<K>> {
         scenario("slow-quorum-lower", &[0], slow_quorum_lower, [(4, "A"), (1, "BC")], [(4, ""), (1, "BC")]),
         scenario("fast-quorum-lower", &[0], fast_quorum_lower, [(4, "B"), (1, "AC")], [(4, ""), (1, "AC")]),
     ]
-}
-
-/// Plays a scenario in the cluster of six. `protocol` is how the replicas opened with `options` count and rank.
-pub fn play<K: Core>(scenario: &Scenario<K>, options: K::Options, protocol: Protocol) -> Script<K> {
-    let mut script = Script::open(options, protocol, scenario.byzantine);
-    (scenario.play)(&mut script);
-    script
-}
-
-/// A Byzantine leader of view 1 shows these replicas a block on genesis.
-fn show<K: Core>(s: &mut Script<K>, name: Name, to: &[usize]) {
-    s.lie(&proposal(0, 1, &block(name, GENESIS, 1), &genesis_certificate()), to);
-}
-
-/// Hands a block on genesis over by itself, as a host does for a replica that asks for it.
-fn give<K: Core>(s: &mut Script<K>, name: Name, to: &[usize]) {
-    s.block(block(name, GENESIS, 1), to);
-}
-
-/// The leader of a view proposes and the voters hear it; then the whole way to a slow release at the leader.
-fn lead<K: Core>(s: &mut Script<K>, leader: usize, view: u64, name: Name, voters: &[usize]) {
-    s.propose(leader, name);
-    s.proposal(leader, view, voters);
-    decide(s, view, leader, voters);
-}
-
-/// One replica hears the others' votes, sends the block certificate round, and hears their commits.
-fn decide<K: Core>(s: &mut Script<K>, view: u64, one: usize, others: &[usize]) {
-    s.votes(others, view, &[one]);
-    s.certificate(one, view, others);
-    s.commits(others, view, &[one]);
 }
 
 // ---------------------------------------------------------------- the five missteps
