@@ -30,7 +30,7 @@ fn both_sides_answer_a_cluster_at_work_alike() {
 #[test]
 fn sections_are_whole() {
     let tables = [held::measure(1), timeouts::measure(1), size::measure(1), releases::measure(1)];
-    for (table, rows) in tables.iter().zip([32, 3, 24, 13]) {
+    for (table, rows) in tables.iter().zip([32, 3, 24, 14]) {
         assert_eq!(table.rows.len(), rows, "{}", table.name);
         assert!(table.rows.iter().all(|row| row.times.iter().all(|time| *time > 0.0)), "{table}");
         assert_eq!(table.csv().lines().count(), rows + 1);
