@@ -117,14 +117,13 @@ fn with_blocks(opening: [u64; 5], parents: &[u64]) -> Expected {
     oracle
 }
 
-/// A cluster of 32 in which one commit decides, and 17 votes do: replica 4, which leads view 5, keeps a vote and a commit of
-/// each replica in each view of its window, as `given` says for a view and a replica. The lock is so high that no certificate
-/// is formed.
-fn many_decided_names(parents: &[u64], given: impl Fn(u64, u8) -> [[u8; 32]; 2]) -> Rooms {
+/// A cluster of 32 with these settings: replica 4, which leads view 5, keeps a vote and a commit of each replica in each view
+/// of its window, as `given` says for a view and a replica. The lock is so high that no certificate is formed.
+fn many_decided_names([f, c, k]: [u64; 3], parents: &[u64], given: impl Fn(u64, u8) -> [[u8; 32]; 2]) -> Rooms {
     const VOTES: usize = 3_688;
     const COMMITS: usize = 11_944;
     const ROW: usize = 1_032;
-    let mut rooms = with_blocks([0, 0, 31, 32, 4], parents).rooms;
+    let mut rooms = with_blocks([f, c, k, 32, 4], parents).rooms;
     rooms.counters[..8].copy_from_slice(&5u64.to_le_bytes());
     rooms.counters[56..64].copy_from_slice(&View::MAX.0.to_le_bytes());
     for view in 1..=8 {
@@ -221,27 +220,36 @@ fn stack_of_a_drop_out_of_order() {
     depths_of_releases("one chain, its last two the wrong way round", chain, last_two_swapped, &[1, 64]);
 }
 
-/// Of 264 decided names only the very last is held, on a chain of so many blocks above the tip.
-fn many_lacking_names(blocks: u64) -> Rooms {
+/// With a slow release by one commit, as few as can be, by two, and by three.
+const FEW_COMMITS: [[u64; 3]; 4] = [[0, 0, 31], [0, 1, 29], [1, 0, 28], [0, 2, 27]];
+
+/// Of the decided names, one for every slow quorum of replicas and one by votes in each view, only the very last is held, on
+/// a chain of so many blocks above the tip.
+fn many_lacking_names(settings: [u64; 3], blocks: u64) -> Rooms {
+    let [f, c, _] = settings;
+    let slow = (2 * f + c + 1) as u8;
     let voted = |view| if view == 8 { name(blocks) } else { lacking(33) };
-    many_decided_names(&chain(blocks), |view, replica| [voted(view), lacking(replica + 1)])
+    many_decided_names(settings, &chain(blocks), |view, replica| [voted(view), lacking(replica / slow + 1)])
 }
 
-/// Rule D's longest search, the deepest inputs known. For propose there is a place left in the store.
+/// Rule D's longest search, by settings; the deepest inputs known are among them. For propose there is a place left in the
+/// store.
 #[test]
 fn stack_of_the_longest_search() {
     let timeout = Timeout { sender: 2, view: View(5), high_vote: Vote::NONE, certificate: Certificate::GENESIS };
-    let mut deepest = [0; 4];
-    for (blocks, step) in [
-        (128, record(|out| wire::write_timeout(out, &timeout))),
-        (128, step(AnyCall::Call(Call::Timer(5)))),
-        (127, step(AnyCall::Call(Call::Propose([9; 32])))),
-    ] {
-        deepest = higher(deepest, depth_of_release(many_lacking_names(blocks), step, blocks));
+    for settings in FEW_COMMITS {
+        let mut deepest = [0; 4];
+        for (blocks, step) in [
+            (128, record(|out| wire::write_timeout(out, &timeout))),
+            (128, step(AnyCall::Call(Call::Timer(5)))),
+            (127, step(AnyCall::Call(Call::Propose([9; 32])))),
+        ] {
+            deepest = higher(deepest, depth_of_release(many_lacking_names(settings, blocks), step, blocks));
+        }
+        let [_, record, timer, propose] = deepest;
+        println!("many decided names, {settings:?}: {record} bytes of stack in record, {timer} in timer, {propose} in propose");
+        assert!([record, timer, propose].iter().all(|&depth| depth > 0 && depth <= BOUND));
     }
-    let [_, record, timer, propose] = deepest;
-    println!("many decided names: {record} bytes of stack in record, {timer} in timer, {propose} in propose");
-    assert!([record, timer, propose].iter().all(|&depth| depth > 0 && depth <= BOUND));
 }
 
 /// Nearly the same by a run: in view 5, which was entered by a certificate, every other replica commits to a name of its own in
@@ -266,7 +274,9 @@ fn stack_of_a_long_search_from_an_opening() {
 #[test]
 fn stack_of_many_releases() {
     let committed = |view: u64, replica: u8| name(16 * (view - 1) + u64::from(replica) / 2 + 1);
-    let rooms = many_decided_names(&chain_and_one_apart(128), |view, replica| [lacking(1), committed(view, replica)]);
+    let rooms = many_decided_names([0, 0, 31], &chain_and_one_apart(128), |view, replica| {
+        [lacking(1), committed(view, replica)]
+    });
     let [_, _, timer, _] = depth_of_release(rooms, step(AnyCall::Call(Call::Timer(5))), 127);
     println!("many releases: {timer} bytes of stack in timer");
     assert!(timer > 0 && timer <= BOUND);

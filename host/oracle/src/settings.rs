@@ -24,6 +24,18 @@ impl Settings {
         taken.then_some(Settings { f: f as u32, c: c as u32, k: k as u32 })
     }
 
+    /// All that opening takes.
+    pub fn all() -> Vec<Settings> {
+        let most = Self::MAX_N as u64;
+        let triples = (0..most).flat_map(|f| (0..most).flat_map(move |c| (0..most).map(move |k| (f, c, k))));
+        triples.filter_map(|(f, c, k)| Settings::new(f, c, k)).collect()
+    }
+
+    /// Whether 01's bound kept them out: "k ≤ 2f+c−4 for even c, k ≤ 2f+c−3 for odd c". By 02, 2.2 it is gone.
+    pub const fn is_above_bound(self) -> bool {
+        self.k + 4 > 2 * self.f + self.c + self.c % 2
+    }
+
     /// Byzantine replicas that the cluster bears.
     pub const fn f(self) -> u32 {
         self.f

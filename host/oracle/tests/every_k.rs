@@ -11,14 +11,9 @@ use oracle::{
 /// How often A, B, C and D run.
 type Ran = literal::Ran;
 
-fn every_settings() -> Vec<Settings> {
-    let numbers = (0..32).flat_map(|f| (0..32).flat_map(move |c| (0..32).map(move |k| (f, c, k))));
-    numbers.filter_map(|(f, c, k)| Settings::new(f, c, k)).collect()
-}
-
 /// Those of more than one replica.
 fn with_others() -> Vec<Settings> {
-    every_settings().into_iter().filter(|settings| settings.n() > 1).collect()
+    Settings::all().into_iter().filter(|settings| settings.n() > 1).collect()
 }
 
 fn open(settings: Settings, leaders: &[u8]) -> Replica {
@@ -55,6 +50,15 @@ fn propose_ran(replica: &mut Replica, number: u8) -> (Vec<u8>, Ran) {
     assert_eq!(replica.propose(name(number), &mut plain), Ok(out.len()));
     assert_eq!(plain, out);
     (out, ran)
+}
+
+/// The settings that 01 gives as taken and refused, and those that 02 speaks of.
+#[test]
+fn the_bound_is_01s() {
+    let above = |(f, c, k)| Settings::new(f, c, k).expect("good settings").is_above_bound();
+    assert!([(1, 1, 0), (2, 2, 2), (7, 5, 0), (2, 0, 0), (0, 4, 0), (0, 3, 0)].into_iter().all(|one| !above(one)));
+    assert!([(2, 0, 1), (1, 2, 2), (0, 0, 0), (1, 1, 1), (1, 0, 0), (0, 3, 1)].into_iter().all(above));
+    assert_eq!(Settings::all().into_iter().filter(|settings| !settings.is_above_bound()).count(), 511);
 }
 
 // ---------------------------------------------------------------- a cluster of one
@@ -206,7 +210,7 @@ fn released_by_a_block_quorum() -> Vec<[u32; 3]> {
 
 #[test]
 fn settings_in_which_a_block_quorum_releases() {
-    let every = every_settings();
+    let every = Settings::all();
     assert!(every.iter().all(|settings| settings.fast_quorum() >= settings.block_quorum()));
     let equal = every.into_iter().filter(|settings| settings.fast_quorum() == settings.block_quorum());
     let equal: Vec<[u32; 3]> = equal.map(numbers).collect();

@@ -23,13 +23,6 @@ fn of(f: u64, c: u64, k: u64) -> Settings {
     Settings::new(f, c, k).expect("settings that are taken")
 }
 
-/// Every settings that opening takes.
-pub fn all() -> Vec<Settings> {
-    let most = Settings::MAX_N as u64;
-    let triples = (0..most).flat_map(|f| (0..most).flat_map(move |c| (0..most).map(move |k| (f, c, k))));
-    triples.filter_map(|(f, c, k)| Settings::new(f, c, k)).collect()
-}
-
 /// One of some settings. Each n that comes up is as likely as another, or nearly all would have more than ten replicas.
 pub fn draw(settings: &[Settings], random: &mut Random) -> Settings {
     let mut sizes: Vec<u32> = settings.iter().map(|settings| settings.n()).collect();
@@ -61,15 +54,15 @@ impl Family {
             Family::Ten
         } else if settings.f() == 0 {
             Family::NobodyLies
-        } else if keeps_bound(settings) {
-            Family::InBound
-        } else {
+        } else if settings.is_above_bound() {
             Family::AboveBound
+        } else {
+            Family::InBound
         }
     }
 
     pub fn settings(self) -> Vec<Settings> {
-        all().into_iter().filter(|settings| Family::of(*settings) == self).collect()
+        Settings::all().into_iter().filter(|settings| Family::of(*settings) == self).collect()
     }
 
     pub fn words(self) -> &'static str {
@@ -80,11 +73,4 @@ impl Family {
             Family::AboveBound => "f ≥ 1, k above it",
         }
     }
-}
-
-/// 000, Theorem 1: "k ≤ 2f+c−4 for even c, k ≤ 2f+c−3 for odd c", as 01 has it.
-fn keeps_bound(settings: Settings) -> bool {
-    let (f, c, k) = (settings.f(), settings.c(), settings.k());
-    let less = if c % 2 == 0 { 4 } else { 3 };
-    k + less <= 2 * f + c
 }

@@ -56,7 +56,7 @@ fn two_rules_run_in_one_call() {
 
 #[test]
 fn the_same_seed_gives_the_same_run() {
-    let table = |seed| covered(settings::all(), seed, 20_000).to_string();
+    let table = |seed| covered(Settings::all(), seed, 20_000).to_string();
     assert_eq!(table(5), table(5));
     assert_ne!(table(5), table(6));
 }

@@ -14,7 +14,7 @@ const B: Name = [b'B'; 32];
 fn each_is_of_one_family() {
     let sizes = Family::ALL.map(|family| family.settings().len());
     assert_eq!(sizes, [1, 272, 450, 414]);
-    assert_eq!(settings::all().len(), 1_137);
+    assert_eq!(Settings::all().len(), 1_137);
     let in_bound = |f, c, k| Family::of(Settings::new(f, c, k).unwrap()) == Family::InBound;
     assert!(in_bound(1, 1, 0) && in_bound(2, 2, 2) && in_bound(7, 5, 0)); // 01's table
     assert!(!in_bound(2, 0, 1) && !in_bound(2, 2, 3) && !in_bound(2, 1, 3)); // 01 refused them
@@ -22,7 +22,7 @@ fn each_is_of_one_family() {
 
 #[test]
 fn clusters_of_every_size_are_drawn() {
-    let all = settings::all();
+    let all = Settings::all();
     let mut random = Random::new(1);
     let drawn: BTreeSet<u32> = (0..1_000).map(|_| settings::draw(&all, &mut random).n()).collect();
     assert_eq!(drawn, (1..=32).collect());
@@ -115,21 +115,21 @@ fn releases_fast<C: Core>(options: C::Options, settings: Settings) {
 
 #[test]
 fn all_go_on_with_f_and_c_silent() {
-    for settings in settings::all() {
+    for settings in Settings::all() {
         goes_on::<Replica>(Faults::NONE, settings);
     }
 }
 
 #[test]
 fn all_release_fast_with_p_silent() {
-    for settings in settings::all() {
+    for settings in Settings::all() {
         releases_fast::<Replica>(Faults::NONE, settings);
     }
 }
 
 #[test]
 fn the_library_does_both() {
-    for settings in settings::all() {
+    for settings in Settings::all() {
         goes_on::<Proved>((), settings);
         releases_fast::<Proved>((), settings);
     }

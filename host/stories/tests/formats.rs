@@ -234,7 +234,7 @@ fn openings() {
 /// Every settings that is taken, with the highest own number.
 #[test]
 fn all_settings_open() {
-    for settings in sim::settings::all() {
+    for settings in oracle::Settings::all() {
         let [f, c, k, n] = [settings.f(), settings.c(), settings.k(), settings.n()].map(|number| number as u16);
         let input = [bytes(|out| wire::write_opening(out, [f, c, k, n, n - 1])), timer()].concat();
         let about = format!("{settings:?}");

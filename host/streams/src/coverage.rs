@@ -5,7 +5,6 @@ use std::fmt;
 use oracle::{answer, wire, Leaders, Refusal, Replica, Reply};
 
 use crate::call::Call;
-use crate::opening::is_above_bound;
 
 /// The rows of the table: kinds of records that a replica knows, its other calls, and all other slices.
 #[derive(Clone, Copy, Debug, PartialEq, Eq)]
@@ -292,7 +291,7 @@ impl Coverage {
         if settings.f() == 0 {
             self.took(Path::NoByzantine);
         }
-        if is_above_bound(settings) {
+        if settings.is_above_bound() {
             self.took(Path::AboveBound);
         }
         if settings.n() == 1 {

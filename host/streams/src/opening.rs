@@ -112,22 +112,3 @@ impl Opening {
         numbers
     }
 }
-
-/// Whether 01's bound kept settings out: "k ≤ 2f+c−4 for even c, k ≤ 2f+c−3 for odd c". By 02, 2.2 it is gone.
-pub fn is_above_bound(settings: Settings) -> bool {
-    let (f, c, k) = (settings.f(), settings.c(), settings.k());
-    k + 4 > 2 * f + c + c % 2
-}
-
-#[cfg(test)]
-mod tests {
-    use super::*;
-
-    /// The settings that 01 gives as taken and refused, and those that 02 speaks of.
-    #[test]
-    fn the_bound_is_01s() {
-        let above = |(f, c, k)| is_above_bound(Settings::new(f, c, k).expect("good settings"));
-        assert!([(1, 1, 0), (2, 2, 2), (7, 5, 0), (2, 0, 0), (0, 4, 0), (0, 3, 0)].into_iter().all(|one| !above(one)));
-        assert!([(2, 0, 1), (1, 2, 2), (0, 0, 0), (1, 1, 1), (1, 0, 0), (0, 3, 1)].into_iter().all(above));
-    }
-}
