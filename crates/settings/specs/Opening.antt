@@ -1,7 +1,7 @@
 -- Which five numbers and which leader list an opening takes (01: Settings and thresholds; Refusals, place "opening"; 02: 2.1, 2.2). Assumes nothing.
 use Prim.Native.Nat.{ℕ, zero, suc}
 use mathlib.Core.Bool.{Bool, false, not, _||_}
-use mathlib.Core.List.{List, [], _∷_}
+use mathlib.Core.List.{List, [], _∷_, _++_}
 use lib.Dec.{eqb, ltb, leb}
 use lib.ListN.{length}
 use Rattle.settings.specs.declared.Settings.{Settings}
@@ -10,13 +10,16 @@ use Rattle.settings.specs.declared.Admission.the-variants.{Admitted, Ref
 use Rattle.settings.specs.Answer.{Answer, accepts, refuses, Rule, _⇒_, judge}
 use Rattle.settings.specs.Quorum.{largest, replicas}
 
--- "settings break a rule above, or own number ≥ n"; of 01's rules above, 02, 2.2 takes the bound on k away: "every k ≥ 0 is taken as long as n is at most 32"
-unfoldable pub openingRules : Settings → ℕ → ℕ → List Rule
-openingRules s n own =
+-- "settings break a rule above"; of 01's rules above, 02, 2.2 takes the bound on k away: "every k ≥ 0 is taken as long as n is at most 32"
+abbrev pub settingsRules : Settings → ℕ → List Rule
+settingsRules s n =
     not (eqb n (replicas s)) ⇒ 1
     ∷ ltb largest n ⇒ 1
-    ∷ leb n own ⇒ 1
     ∷ []
+
+-- "settings break a rule above, or own number ≥ n"
+unfoldable pub openingRules : Settings → ℕ → ℕ → List Rule
+openingRules s n own = settingsRules s n ++ (leb n own ⇒ 1 ∷ [])
 
 unfoldable pub opening : ℕ → ℕ → ℕ → ℕ → ℕ → Answer Settings
 opening f c k n own = let s : Settings = record { f = f; c = c; k = k } in judge (openingRules s n own) s
