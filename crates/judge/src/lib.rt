@@ -57,7 +57,7 @@ fn nothing(refusal: u64) -> Want
 }
 
 // The place "shape" as a number.
-fn shape_number(rec: &[u8], n: u64) -> u64
+pub fn shape_number(rec: &[u8], n: u64) -> u64
     ensures { λ r. ⌜ r ≡ firstOf (shapeRules n (now (rec .entry))) ⌝ }
 {
     let verdict = shape::check(rec, n);

@@ -30,7 +30,7 @@ pub enum Verdict {
 // ---- 3: lengths
 
 // Too short for a header, or the length field isn't the slice's length.
-fn frame_bad(rec: &[u8]) -> bool
+pub fn frame_bad(rec: &[u8]) -> bool
     ensures { λ r. ⌜ r ≡ frameBad (now (rec .entry)) ⌝ }
 {
     if rec.len() < length::HEADER {

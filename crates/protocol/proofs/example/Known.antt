@@ -112,19 +112,19 @@ module _ (r : Replica) (output : List ℕ) (i : ℕ) (R : OfSix r) (room : outpu
       ∙ rw (read-written x fits, back, R .cluster) (listed _)
 
 -- ---- high votes and carried certificates that records can hold
-record Vouched (h : Vote) : Type 0 where
-  view : h .view .0 ≤ 3
-  name : IsName (h .name)
-  named : h .view .0 ≡ 0 → h .name ≡ zeroName
-  viewed : h .name ≡ zeroName → h .view .0 ≡ 0
+pub record Vouched (h : Vote) : Type 0 where
+  pub view : h .view .0 ≤ 3
+  pub name : IsName (h .name)
+  pub named : h .view .0 ≡ 0 → h .name ≡ zeroName
+  pub viewed : h .name ≡ zeroName → h .view .0 ≡ 0
 
-record Carriable (c : Carried) : Type 0 where
-  kind : c .kind ≡ 3
-  view : c .view .0 ≤ 3
-  name : IsName (c .name)
-  signers : c .signers < 2 ^ 6
+pub record Carriable (c : Carried) : Type 0 where
+  pub kind : c .kind ≡ 3
+  pub view : c .view .0 ≤ 3
+  pub name : IsName (c .name)
+  pub signers : c .signers < 2 ^ 6
 
-carries-genesis : Carriable genesis
+pub carries-genesis : Carriable genesis
 carries-genesis = record { kind = refl; view = lit≤ tt; name = zero-is-name; signers = lit< tt }
 
 one-carries : (t : Bool) (c : Carried) → Carriable c → Carriable (cond t c genesis)
@@ -132,12 +132,12 @@ one-carries true c h = h
 one-carries false c h = carries-genesis
 
 module _ (c : Carried) (j : ℕ) (carriable : Carriable c) where
-  sent-length : (i : ℕ) (high : List Vote) → length (sent c j i high) ≡ length high
+  pub sent-length : (i : ℕ) (high : List Vote) → length (sent c j i high) ≡ length high
   unfolding sent
   sent-length i [] = refl
   sent-length i (h ∷ l) = ap suc (sent-length (suc i) l)
 
-  sent-fits : (i : ℕ) (high : List Vote) → i + length high ≤ 6 → All Vouched high → All TimeoutFits (sent c j i high)
+  pub sent-fits : (i : ℕ) (high : List Vote) → i + length high ≤ 6 → All Vouched high → All TimeoutFits (sent c j i high)
   unfolding sent All
   sent-fits i [] few v = tt
   sent-fits i (h ∷ l) few v =
@@ -155,7 +155,7 @@ module _ (c : Carried) (j : ℕ) (carriable : Carriable c) where
       } in
       (head, sent-fits (suc i) l (omega arith) (v .1))
 
-  sent-proper : (i : ℕ) (high : List Vote) → i + length high ≤ 6 → All Vouched high → TimeoutsProper 6 3 i (sent c j i high)
+  pub sent-proper : (i : ℕ) (high : List Vote) → i + length high ≤ 6 → All Vouched high → TimeoutsProper 6 3 i (sent c j i high)
   unfolding sent All TimeoutsProper
   sent-proper i [] few v = tt
   sent-proper i (h ∷ l) few v =
@@ -188,10 +188,10 @@ line high c a v few k p₀ p₁ p₂ p₃ r output sender j R room member h =
     ∙ below-four (Computes high c a) p₀ p₁ p₂ p₃ j (omega arith)
 
 -- ---- the votes and certificates of the table
-none-voted : Vouched none
+pub none-voted : Vouched none
 none-voted = record { view = lit≤ tt; name = zero-is-name; named = λ e. refl; viewed = λ e. refl }
 
-voted : (x : List ℕ) → IsName x → (x ≡ zeroName → ⊥) → Vouched (votes x)
+pub voted : (x : List ℕ) → IsName x → (x ≡ zeroName → ⊥) → Vouched (votes x)
 voted x name other = record { view = lit≤ tt; name = name; named = λ e. absurd (omega (arith, e)); viewed = λ e. absurd (other e) }
 
 module _ (A B : List ℕ) (nameA : IsName A) (nameB : IsName B) (blockA : A ≡ zeroName → ⊥) (blockB : B ≡ zeroName → ⊥) (less : lessBytes A B ≡ true) where
