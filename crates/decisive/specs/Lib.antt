@@ -1,0 +1,4 @@
+pub mod Decisive
+pub mod Reply
+pub mod Laws
+pub mod Examples
