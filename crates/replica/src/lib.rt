@@ -1,6 +1,7 @@
-// The replica: open, record, timer and propose on lent counters, memory, store and output.
+// The replica: open, record, timer and propose on lent counters, memory, store and output; and the call of 02, 2.3, over settings and a record, which has no replica.
 // Promises: each call, on any content and length of what is lent and with any input, replies and leaves what `openingCall`, `recordCall`, `timerCall` and
-// `proposeCall` of `protocol` say, with the leader by the list that was opened with, of which demand 3 speaks. No public function has a `requires`. Rests on `judge`, `perform` and `release`; the calls have no branch.
+// `proposeCall` of `protocol` say, with the leader by the list that was opened with, of which demand 3 speaks; `hydrangea_decisive` answers what `decisiveCall` of `decisive` says.
+// No public function has a `requires`. Rests on `judge`, `perform`, `release` and `decisive`; the calls have no branch.
 // They are exported by their own names, hence the prefix: a library that exports `open` would take the place of the C library's.
 use act::Draft;
 use blocks::Block;
@@ -9,6 +10,8 @@ use blocks::fill;
 use blocks::held;
 use counters::Counters;
 use counters::opened;
+use decisive::Decisive;
+use decisive::whose;
 use event::host::open_memory;
 use perform::Done;
 use release::release_all;
@@ -26,6 +29,8 @@ ghost use Rattle.protocol.specs.Calls.{recordCall, timerCall, proposeCall, open
 ghost use Rattle.refusals.specs.Number.{answerOf};
 ghost use Rattle.act.specs.Draft.{workOf, left, leftBy};
 ghost use Rattle.blocks.specs.declared.Block.{Block};
+ghost use Rattle.decisive.specs.Decisive.{decisiveCall};
+ghost use Rattle.decisive.specs.Reply.{replyOf as decisiveReply};
 ghost use Rattle.replica.specs.Openings.{openedOutcome, admitted};
 ghost use Rattle.replica.specs.Reply.{Concludes, replyOf, lentTo, replied, repliedBy};
 
@@ -222,4 +227,12 @@ pub extern "C" fn hydrangea_open(
     let done = opening(old, mem, store.len(), f, c, k, n, own, leaders);
     *counters = done.counters;
     answer(done.refusal, 0)
+}
+
+// Whose timeout decided it: settings and n, and a record of any bytes. A function of a lower crate isn't exported, so it stands here.
+#[no_mangle]
+pub extern "C" fn hydrangea_decisive(f: u64, c: u64, k: u64, n: u64, rec: &[u8]) -> Decisive
+    ensures { λ r. ⌜ r ≡ decisiveReply (decisiveCall f c k n (now (rec .entry))) ⌝ }
+{
+    whose(f, c, k, n, rec)
 }
