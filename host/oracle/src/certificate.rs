@@ -2,7 +2,7 @@
 
 use crate::settings::Protocol;
 use crate::types::{Name, View, Vote, GENESIS};
-use crate::wire::{TimeoutCertificate, Timeouts};
+use crate::wire::{self, TimeoutCertificate, Timeouts};
 
 #[derive(Clone, Copy, Debug, PartialEq, Eq, Hash)]
 pub enum CertificateKind {
@@ -94,28 +94,37 @@ impl Protocol {
     /// senders). The highest candidate is its safe certificate; for equal kind, view and name, carried before built,
     /// lowest sender first." Of no timeouts at all (no good certificate) it is the genesis certificate.
     pub fn safe_certificate(&self, timeouts: Timeouts<'_>) -> Certificate {
-        let carried = self.highest_carried(timeouts);
+        self.safe_certificate_of(timeouts.raw())
+    }
+
+    /// The same of timeouts as bytes, whichever way they come.
+    pub(crate) fn safe_certificate_of<'a>(&self, timeouts: impl Iterator<Item = &'a [u8]> + Clone) -> Certificate {
+        let carried = self.highest_carried(timeouts.clone());
         if self.faults.high_votes_left_out {
             return carried;
         }
         self.highest_built(timeouts, carried)
     }
 
-    fn highest_carried(&self, timeouts: Timeouts<'_>) -> Certificate {
-        let mut carried = timeouts.iter().map(|timeout| timeout.certificate);
+    fn highest_carried<'a>(&self, timeouts: impl Iterator<Item = &'a [u8]>) -> Certificate {
+        let mut carried = timeouts.map(|timeout| wire::read_timeout(timeout).certificate);
         let first = carried.next().unwrap_or(Certificate::GENESIS);
         carried.fold(first, |best, next| if self.outranks(&next, &best) { next } else { best })
     }
 
     /// The highest of `best` and the built weak certificates. Only a high vote that would outrank is counted.
-    fn highest_built(&self, timeouts: Timeouts<'_>, mut best: Certificate) -> Certificate {
+    fn highest_built<'a>(
+        &self,
+        timeouts: impl Iterator<Item = &'a [u8]> + Clone,
+        mut best: Certificate,
+    ) -> Certificate {
         let mut too_few = Vote::NONE;
-        for vote in timeouts.high_votes() {
+        for vote in timeouts.clone().map(wire::high_vote_of) {
             let candidate = Certificate::weak(vote.view, vote.name, 0);
             if vote.view == View(0) || vote == too_few || !self.outranks(&candidate, &best) {
                 continue;
             }
-            let (count, signers) = self.backing(timeouts, vote);
+            let (count, signers) = self.backing(timeouts.clone(), vote);
             if count >= self.quorums.weak {
                 best = Certificate { signers, ..candidate };
             } else {
@@ -126,13 +135,13 @@ impl Protocol {
     }
 
     /// How many timeouts give this high vote, and their senders.
-    fn backing(&self, timeouts: Timeouts<'_>, vote: Vote) -> (u32, u64) {
+    fn backing<'a>(&self, timeouts: impl Iterator<Item = &'a [u8]>, vote: Vote) -> (u32, u64) {
         let mut count = 0;
         let mut signers = 0;
-        for (sender, high_vote) in timeouts.senders().zip(timeouts.high_votes()) {
-            if high_vote == vote {
+        for timeout in timeouts {
+            if wire::high_vote_of(timeout) == vote {
                 count += 1;
-                signers |= 1u64.checked_shl(u32::from(sender)).unwrap_or(0);
+                signers |= 1u64.checked_shl(u32::from(wire::sender_of(timeout))).unwrap_or(0);
             }
         }
         (count, signers & self.settings.everyone())

@@ -3,6 +3,7 @@
 //! threshold = quorum.
 
 mod certificate;
+mod decisive;
 mod faults;
 mod judge;
 mod kept;
@@ -21,6 +22,7 @@ pub mod run;
 pub mod wire;
 
 pub use certificate::{Certificate, CertificateKind, Timeout};
+pub use decisive::decisive;
 pub use faults::Faults;
 pub use kept::{members, BallotRows, Ballots, EntryCertificate, KeptTimeouts, TimeoutRows, Window};
 pub use leaders::Leaders;

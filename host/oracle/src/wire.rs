@@ -72,6 +72,11 @@ pub fn sender_of(record: &[u8]) -> u16 {
     u16_at(record, 6)
 }
 
+/// A timeout's high vote.
+pub fn high_vote_of(timeout: &[u8]) -> Vote {
+    vote_at(timeout, 16)
+}
+
 fn vote_at(bytes: &[u8], at: usize) -> Vote {
     Vote { view: View(u64_at(bytes, at)), name: name_at(bytes, at + 8) }
 }
@@ -104,7 +109,8 @@ fn lengths_fit(bytes: &[u8]) -> bool {
         }
 }
 
-fn length_field_fits(bytes: &[u8]) -> bool {
+/// Whether a slice is framed as a record: it has a header, and the length field is the slice's length.
+pub(crate) fn length_field_fits(bytes: &[u8]) -> bool {
     bytes.len() >= HEADER && u32_at(bytes, 0) as usize == bytes.len()
 }
 
@@ -190,7 +196,7 @@ fn inner_timeouts_fit(bytes: &[u8], n: u32) -> bool {
 
 /// A timeout's own part of refusal 5: padding, "half-empty high vote; signer ≥ n".
 fn timeout_contents_fit(timeout: &[u8], n: u32) -> bool {
-    let high_vote = vote_at(timeout, 16);
+    let high_vote = high_vote_of(timeout);
     padding_fits(timeout, 58)
         && (high_vote.view == View(0)) == (high_vote.name == GENESIS)
         && signers_fit(u64_at(timeout, 104), n)
@@ -265,8 +271,14 @@ impl<'a> Timeouts<'a> {
     }
 
     /// 01: "each timeout inside a timeout certificate is read as a record of its own".
-    pub fn raw(self) -> impl Iterator<Item = &'a [u8]> {
+    pub fn raw(self) -> impl Iterator<Item = &'a [u8]> + Clone {
         self.0.chunks_exact(TIMEOUT)
+    }
+
+    /// All but the one at this place.
+    pub fn raw_without(self, place: usize) -> impl Iterator<Item = &'a [u8]> + Clone {
+        let (before, rest) = self.0.split_at(TIMEOUT * place);
+        before.chunks_exact(TIMEOUT).chain(rest[TIMEOUT..].chunks_exact(TIMEOUT))
     }
 
     pub fn iter(self) -> impl Iterator<Item = Timeout> + 'a {
@@ -275,10 +287,6 @@ impl<'a> Timeouts<'a> {
 
     pub fn senders(self) -> impl Iterator<Item = u16> + 'a {
         self.raw().map(sender_of)
-    }
-
-    pub fn high_votes(self) -> impl Iterator<Item = Vote> + 'a {
-        self.raw().map(|timeout| vote_at(timeout, 16))
     }
 }
 
@@ -311,7 +319,7 @@ pub fn read_timeout(bytes: &[u8]) -> Timeout {
     Timeout {
         sender: sender_of(bytes),
         view: View(u64_at(bytes, 8)),
-        high_vote: vote_at(bytes, 16),
+        high_vote: high_vote_of(bytes),
         certificate: Certificate { kind, view, name, signers: u64_at(bytes, 104) },
     }
 }
@@ -321,8 +329,13 @@ pub fn read_progress(bytes: &[u8]) -> Progress<'_> {
     let view = View(u64_at(bytes, 8));
     match kind_of(bytes) {
         kind::BLOCK_CERTIFICATE => Progress::Block(Certificate::block(view, name_at(bytes, 16), u64_at(bytes, 48))),
-        _ => Progress::Timeouts(TimeoutCertificate { view, timeouts: Timeouts::of(bytes), bytes }),
+        _ => Progress::Timeouts(read_timeout_certificate(bytes)),
     }
+}
+
+/// Reads a record of kind 6.
+pub fn read_timeout_certificate(bytes: &[u8]) -> TimeoutCertificate<'_> {
+    TimeoutCertificate { view: View(u64_at(bytes, 8)), timeouts: Timeouts::of(bytes), bytes }
 }
 
 fn read_proposal(bytes: &[u8]) -> Proposal<'_> {

@@ -1,6 +1,8 @@
 //! A replica in the middle of a run, and records for it.
 #![allow(dead_code)]
 
+pub mod breaks;
+
 use oracle::{wire, Block, Certificate, Height, Name, Replica, Timeout, View, Vote, GENESIS};
 
 /// Four signers: a block quorum of six.
