@@ -1,5 +1,6 @@
 /*
- * One replica of the voting core as a step machine over bytes: the calls of the proved library.
+ * One replica of the voting core as a step machine over bytes: the calls of the proved library. One more call,
+ * hydrangea_decisive, touches no replica.
  *
  * The host lends every region for the time of a call; the library keeps no pointer, allocates nothing and has no
  * state of its own. Regions must not overlap. A slice crosses as a pointer and a length: in bytes, for the store in
@@ -7,8 +8,9 @@
  * alone. No pointer may be null, and counters and store are aligned for a uint64_t. docs/INTERFACE.md has the
  * records and the layouts.
  *
- * Every call answers with a refusal, 0 for acceptance, and the number of bytes written. A refused call changes no
- * byte. An accepted one writes whole records to the front of the output and leaves the bytes after them.
+ * Every call answers with a refusal, 0 for acceptance, and those on a replica with the number of bytes written. A
+ * refused call changes no byte. An accepted one on a replica writes whole records to the front of the output and leaves
+ * the bytes after them.
  *
  * What one chain asks of the host:
  * - each number is opened once, all honest replicas of a cluster with the same settings and the same leader list;
@@ -25,6 +27,9 @@
 #ifndef HYDRANGEA_H
 #define HYDRANGEA_H
 
+#ifndef __cplusplus
+#include <stdbool.h>
+#endif
 #include <stddef.h>
 #include <stdint.h>
 
@@ -81,6 +86,13 @@ typedef struct hydrangea_reply {
     size_t written;
 } hydrangea_reply;
 
+/* 0 or a refusal, whether there is a decisive timeout, and its sender; without one the sender is 0. */
+typedef struct hydrangea_decisive_reply {
+    uint64_t refusal;
+    bool found;
+    uint64_t sender;
+} hydrangea_decisive_reply;
+
 /*
  * Opens the replica `own` of a cluster of n = 3f + 2c + k + 1 in what is lent, whatever stood there. Any f, c and k are
  * taken as long as n is at most 32; all of them 0 is a cluster of one. The leader list has 1 to 64 replica numbers, one
@@ -112,7 +124,21 @@ hydrangea_reply hydrangea_propose(hydrangea_counters *counters, uint8_t *memory,
                                   hydrangea_block *store, size_t store_length, uint8_t *output, size_t output_length,
                                   hydrangea_name name);
 
-/* The library was built for these sizes: no struct has a gap. In C99 a wrong one is an array of negative length. */
+/*
+ * Whose timeout decided it: of a good timeout certificate (kind 6) the lowest sender whose timeout, taken out, leaves at
+ * least n - f - c timeouts but another safe block by name. Weak certificates are built anew of the timeouts left. There is
+ * none where no sender has that property, as with exactly n - f - c timeouts. The record has any bytes, and nothing is
+ * written. Refusals 1 (n isn't 3f + 2c + k + 1 or is over 32), 3, 4 (a kind but 6 too, whatever its own length would be),
+ * 5, 6 (the sender is n or above), 7 (the view is 0), 8 (the view is 2^62 or above) and 9 (too few timeouts, or one that
+ * isn't good).
+ */
+hydrangea_decisive_reply hydrangea_decisive(uint64_t f, uint64_t c, uint64_t k, uint64_t n, const uint8_t *record,
+                                            size_t record_length);
+
+/*
+ * The library was built for these sizes: no struct has a gap, but for the seven bytes behind `found`, which mean nothing.
+ * In C99 a wrong one is an array of negative length.
+ */
 #if defined(__cplusplus) && __cplusplus >= 201103L
 #define HYDRANGEA_SIZE(type, size) static_assert(sizeof(type) == (size), #type " has another size")
 #elif defined(__STDC_VERSION__) && __STDC_VERSION__ >= 201112L
@@ -127,6 +153,7 @@ HYDRANGEA_SIZE(hydrangea_vote, 40);
 HYDRANGEA_SIZE(hydrangea_signed, 48);
 HYDRANGEA_SIZE(hydrangea_counters, 224);
 HYDRANGEA_SIZE(hydrangea_reply, 16);
+HYDRANGEA_SIZE(hydrangea_decisive_reply, 24);
 
 #undef HYDRANGEA_SIZE
 

@@ -1,5 +1,5 @@
-//! The library's calls on lent regions of any length and any content. No call has a precondition: what is too short or
-//! breaks a rule gets refusal 2, and a refused call leaves every byte.
+//! The library's calls on lent regions of any length and any content, and the one that touches no replica. No call has a
+//! precondition: what is too short or breaks a rule gets refusal 2, and a refused call leaves every byte.
 
 use crate::types::{Block, Counters, Name, Settings};
 
@@ -18,6 +18,15 @@ pub struct Reply {
     pub written: usize,
 }
 
+/// What [`decisive`] answers: refusal 0 is a good timeout certificate. `sender` is 0 where none is found.
+#[derive(Clone, Copy, Debug, PartialEq, Eq)]
+#[repr(C)]
+pub struct Decisive {
+    pub refusal: u64,
+    pub found: bool,
+    pub sender: u64,
+}
+
 /// What a host lends for a call.
 pub struct Lent<'a> {
     pub counters: &'a mut Counters,
@@ -26,7 +35,8 @@ pub struct Lent<'a> {
     pub output: &'a mut [u8],
 }
 
-// A slice crosses as a pointer and a length; a reply comes back in two registers, and a name goes in on the stack.
+// A slice crosses as a pointer and a length; a reply comes back in two registers, a decisive timeout through memory, and a
+// name goes in on the stack.
 extern "C" {
     fn hydrangea_open(
         counters: *mut Counters,
@@ -76,6 +86,8 @@ extern "C" {
         output_length: usize,
         name: Name,
     ) -> Reply;
+
+    fn hydrangea_decisive(f: u64, c: u64, k: u64, n: u64, record: *const u8, record_length: usize) -> Decisive;
 }
 
 /// Opens a replica in what is lent, with a leader list of any bytes. The store's entries are left as they are.
@@ -126,6 +138,13 @@ impl Lent<'_> {
     }
 }
 
+/// Whose timeout decided a timeout certificate, a record of any bytes.
+pub fn decisive(settings: Settings, record: &[u8]) -> Decisive {
+    let Settings { f, c, k, n } = settings;
+    // SAFETY: the pointer is valid for its length, and the call reads nothing else and writes nothing.
+    unsafe { hydrangea_decisive(f, c, k, n, record.as_ptr(), record.len()) }
+}
+
 /// The counters as the bytes that they are.
 pub fn counters_bytes(counters: &Counters) -> &[u8] {
     as_bytes(std::slice::from_ref(counters))
@@ -151,7 +170,7 @@ trait Plain {}
 impl Plain for Counters {}
 impl Plain for Block {}
 
-const _: () = assert!(size_of::<Counters>() == 224 && size_of::<Block>() == 72);
+const _: () = assert!(size_of::<Counters>() == 224 && size_of::<Block>() == 72 && size_of::<Decisive>() == 24);
 
 fn as_bytes<T: Plain>(items: &[T]) -> &[u8] {
     // SAFETY: a type that is plain has no byte that isn't set, and bytes need no alignment.

@@ -57,6 +57,14 @@ impl Refusal {
         Refusal::ALL.into_iter().find(|refusal| refusal.number() == number)
     }
 
+    /// Acceptance, or the refusal of this number. By the library's proof no number above 15 comes back; one would read as 2.
+    pub(crate) fn judge(number: u64) -> Result<(), Refusal> {
+        match number {
+            0 => Ok(()),
+            number => Err(Refusal::of(number).unwrap_or(Refusal::Regions)),
+        }
+    }
+
     /// 01's number, 1 to 15.
     pub fn number(self) -> u64 {
         self as u64
@@ -85,6 +93,28 @@ impl Refusal {
             }
             Refusal::StoreFull => "the block is new and the store is full",
             Refusal::Turn => "it isn't this replica's turn to propose",
+        }
+    }
+
+    /// The same for [`decisive_timeout`](crate::decisive_timeout), which knows no replica: no own number, leader list, window
+    /// or current view.
+    ///
+    /// ```
+    /// use replica::Refusal;
+    ///
+    /// assert_eq!(Refusal::ViewBelow.meaning(), "the view is below the window or the current view, or 0");
+    /// assert_eq!(Refusal::ViewBelow.meaning_for_decisive(), "the view is 0");
+    /// ```
+    pub fn meaning_for_decisive(self) -> &'static str {
+        match self {
+            Refusal::Settings => "n isn't 3f + 2c + k + 1 or is over 32",
+            Refusal::Kind => "the record is no timeout certificate, or an inner kind is out of place",
+            Refusal::Content => "padding, a high vote, a signer set or an inner timeout isn't as it must be",
+            Refusal::Party => "the sender is outside of the cluster",
+            Refusal::ViewBelow => "the view is 0",
+            Refusal::ViewAbove => "the view is 2^62 or above",
+            Refusal::Certificate => "too few timeouts, or a timeout that isn't good",
+            other => other.meaning(),
         }
     }
 }

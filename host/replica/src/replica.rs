@@ -280,12 +280,9 @@ impl fmt::Debug for Replica {
     }
 }
 
-/// The bytes written, or the refusal. By the library's proof no number above 15 comes back; one would read as 2.
+/// The bytes written, or the refusal.
 fn accept(reply: Reply) -> Result<usize, Refusal> {
-    match reply.refusal {
-        0 => Ok(reply.written),
-        number => Err(Refusal::of(number).unwrap_or(Refusal::Regions)),
-    }
+    Refusal::judge(reply.refusal).map(|()| reply.written)
 }
 
 /// An accepted call. The state is saved before any byte that it wrote is sent; so the output is only to be had by

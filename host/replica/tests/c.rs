@@ -1,14 +1,17 @@
 //! The library from C: the examples are compiled, linked and run, and the header is read as C99, C11 and C++.
 
 use std::fs;
+use std::io::Write;
 use std::mem::offset_of;
 use std::path::{Path, PathBuf};
-use std::process::{Command, Output};
+use std::process::{Command, Output, Stdio};
 
+use oracle::wire;
 use replica::{raw, Block, Certificate, Counters, Vote};
 
 const STRICT: [&str; 4] = ["-Wall", "-Wextra", "-Werror", "-O2"];
 const OPEN: &str = "0 0 10\n";
+const DECISIVE: &str = "The choice hung on the timeout of replica 1.\n";
 const SANITIZER: [&str; 3] = ["-fsanitize=address,undefined", "-fno-sanitize-recover=all", "-DGUARD=0"];
 
 fn folder() -> &'static Path {
@@ -17,6 +20,10 @@ fn folder() -> &'static Path {
 
 fn root() -> PathBuf {
     folder().join("../..")
+}
+
+fn archive() -> PathBuf {
+    root().join("target/staticlib/libreplica.a")
 }
 
 fn gcc() -> Command {
@@ -36,12 +43,17 @@ fn text(command: &mut Command) -> String {
     String::from_utf8(stdout).expect("text")
 }
 
-/// Compiles an example with these flags, links the library and runs it.
-fn run(example: &str, suffix: &str, flags: &[&str]) -> String {
+/// Compiles an example with these flags and links the library.
+fn build(example: &str, suffix: &str, flags: &[&str]) -> PathBuf {
     let program = Path::new(env!("CARGO_TARGET_TMPDIR")).join(format!("{example}{suffix}"));
     let source = folder().join("examples").join(example).with_extension("c");
-    text(gcc().args(flags).arg(source).arg("-o").arg(&program).arg(root().join("target/staticlib/libreplica.a")));
-    text(&mut Command::new(program))
+    text(gcc().args(flags).arg(source).arg("-o").arg(&program).arg(archive()));
+    program
+}
+
+/// What it writes when it is run.
+fn run(example: &str, suffix: &str, flags: &[&str]) -> String {
+    text(&mut Command::new(build(example, suffix, flags)))
 }
 
 /// Each replica of six released one block and went on to the second view.
@@ -53,6 +65,7 @@ fn all_released() -> String {
 fn the_examples_run() {
     assert_eq!(run("open", "", &["-std=c11"]), OPEN);
     assert_eq!(run("records", "", &["-std=c11"]), all_released());
+    assert_eq!(run("decisive", "", &["-std=c11"]), DECISIVE);
 }
 
 /// Regions of exactly their lengths, so that the sanitizer sees an overrun by the C code; the library's own code isn't
@@ -63,6 +76,41 @@ fn the_examples_run_sanitized() {
     assert_sanitizer();
     assert_eq!(run("open", "-sanitized", &flags), OPEN);
     assert_eq!(run("records", "-sanitized", &flags), all_released());
+    assert_eq!(run("decisive", "-sanitized", &flags), DECISIVE);
+}
+
+/// The exit code and the words of `decisive.c` in the cluster of six for what it reads.
+fn decided(program: &Path, record: &[u8]) -> (Option<i32>, String) {
+    let mut command = Command::new(program);
+    command.args(["1", "1", "0"]).stdin(Stdio::piped()).stdout(Stdio::piped());
+    let mut child = command.spawn().expect("the example starts");
+    child.stdin.take().expect("its input").write_all(record).expect("it reads all");
+    let ended = child.wait_with_output().expect("it ends");
+    (ended.status.code(), String::from_utf8(ended.stdout).expect("text"))
+}
+
+/// So many timeouts of view 1, by replicas 0, 1 and on, without a high vote.
+fn timeouts_record(count: u16) -> Vec<u8> {
+    use oracle::{Certificate, Timeout, View, Vote};
+    let timeout = |sender| Timeout { sender, view: View(1), high_vote: Vote::NONE, certificate: Certificate::GENESIS };
+    let timeouts: Vec<Timeout> = (0..count).map(timeout).collect();
+    let mut record = Vec::new();
+    wire::write_timeout_certificate(&mut record, 0, View(1), &timeouts);
+    record
+}
+
+/// Certificates and what is none; with 33 timeouts one is longer than what the tool reads.
+#[test]
+fn the_tool_reads_a_certificate() {
+    let program = build("decisive", "-read", &["-std=c11"]);
+    let refused = |number, meaning| (Some(1), format!("Refused by {number}: {meaning}.\n"));
+    let answer = |count| decided(&program, &timeouts_record(count));
+    let nobody = (Some(0), "The choice hung on no single timeout.\n".to_owned());
+    assert_eq!((answer(4), answer(6)), (nobody.clone(), nobody));
+    assert_eq!(answer(3), refused(9, "it has too few timeouts, or one that isn't good"));
+    assert_eq!(answer(32), refused(5, "padding, a high vote, a signer set or an inner timeout isn't as it must be"));
+    assert_eq!(answer(33), refused(3, "a length is wrong"));
+    assert_eq!(decided(&program, b""), refused(3, "a length is wrong"));
 }
 
 /// The sanitizer is there, and it stops a program that writes behind a region.
@@ -90,6 +138,21 @@ fn the_header_is_c_and_cpp() {
     }
 }
 
+/// The header declares the calls that the library exports, and no others.
+#[test]
+fn the_header_declares_every_call() {
+    let symbols = text(Command::new("nm").args(["-g", "--defined-only"]).arg(archive()));
+    let names = symbols.lines().filter_map(|line| line.split(' ').next_back());
+    let mut exported: Vec<&str> = names.filter(|name| name.starts_with("hydrangea_")).collect();
+    exported.sort_unstable();
+    let header = fs::read_to_string(folder().join("include/hydrangea.h")).expect("the header");
+    let functions = header.lines().filter(|line| line.starts_with("hydrangea_"));
+    let name = |line: &str| line.split([' ', '(']).nth(1).map(str::to_owned);
+    let mut declared: Vec<String> = functions.filter_map(name).collect();
+    declared.sort_unstable();
+    assert_eq!(declared, exported);
+}
+
 /// Lengths, and the place of every field, are those of the Rust side.
 #[test]
 fn the_header_has_the_layout() {
@@ -114,6 +177,9 @@ fn the_header_has_the_layout() {
         ("offsetof(hydrangea_counters, tip)", offset_of!(Counters, tip)),
         ("offsetof(hydrangea_reply, refusal)", offset_of!(raw::Reply, refusal)),
         ("offsetof(hydrangea_reply, written)", offset_of!(raw::Reply, written)),
+        ("offsetof(hydrangea_decisive_reply, refusal)", offset_of!(raw::Decisive, refusal)),
+        ("offsetof(hydrangea_decisive_reply, found)", offset_of!(raw::Decisive, found)),
+        ("offsetof(hydrangea_decisive_reply, sender)", offset_of!(raw::Decisive, sender)),
     ];
     let asserted = facts.map(|(what, number)| format!("_Static_assert({what} == {number}, \"{what}\");\n"));
     let source = Path::new(env!("CARGO_TARGET_TMPDIR")).join("layout.c");
