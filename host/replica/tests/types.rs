@@ -23,12 +23,19 @@ fn root() -> PathBuf {
     Path::new(env!("CARGO_MANIFEST_DIR")).join("../..")
 }
 
-/// A repository of the core's code, without specs and proofs, with room for a program.
-fn repository() -> PathBuf {
-    let copy = Path::new(env!("CARGO_TARGET_TMPDIR")).join("types");
-    if copy.exists() {
-        fs::remove_dir_all(&copy).expect("the last one goes");
+/// A folder that goes with the test. It stands outside of the repository, where `rt` asks of all Rattle code that a crate
+/// has it.
+struct Temporary(PathBuf);
+
+impl Drop for Temporary {
+    fn drop(&mut self) {
+        let _ = fs::remove_dir_all(&self.0);
     }
+}
+
+/// A repository of the core's code, without specs and proofs, with room for a program.
+fn repository() -> Temporary {
+    let copy = std::env::temp_dir().join(format!("types-{}", std::process::id()));
     let crates = fs::read_to_string(root().join("crates.txt")).expect("crates.txt");
     let program = crates.lines().find_map(|line| line.strip_prefix("run:")).expect("what the run program rests on");
     for name in crates.lines().filter_map(|line| line.split_once(':')).map(|(name, _)| name) {
@@ -43,7 +50,7 @@ fn repository() -> PathBuf {
     fs::write(copy.join("crates.txt"), format!("{crates}probe:{program}\n")).expect("crates.txt");
     fs::create_dir_all(copy.join("crates/probe/src")).expect("a folder");
     fs::write(copy.join("crates/probe/stdout"), "").expect("a file");
-    copy
+    Temporary(copy)
 }
 
 /// Whether the program of these lines compiles and runs to its end, and what `rt` says of it. Nothing is proved.
@@ -63,12 +70,12 @@ fn typed(line: &str, kind: &str) -> String {
 fn a_height_is_no_view_and_a_view_no_height() {
     let repository = repository();
     let right = LINES.map(|(kind, line)| typed(line, kind));
-    let (taken, said) = tried(&repository, &right);
+    let (taken, said) = tried(&repository.0, &right);
     assert!(taken, "{said}");
     for (place, (kind, line)) in LINES.into_iter().enumerate() {
         let mut lines = right.clone();
         lines[place] = typed(line, if kind == "View" { "Height" } else { "View" });
-        let (taken, said) = tried(&repository, &lines);
+        let (taken, said) = tried(&repository.0, &lines);
         assert!(!taken && said.contains(REJECTED), "{}{said}", lines[place]);
     }
 }
