@@ -1,6 +1,8 @@
 //! The proved library beside the oracle, call by call: the same regions, the same calls, and after each call every byte
-//! compared, in what was lent and around it.
+//! compared, in what was lent and around it. The call that names the decisive timeout has no regions: its answers are
+//! compared.
 
+mod decisive;
 mod difference;
 mod expected;
 mod library;
@@ -10,6 +12,7 @@ mod shrink;
 mod step;
 mod tally;
 
+pub use decisive::{compare_decisive, replay_decisive, DecisiveMismatch};
 pub use difference::Difference;
 pub use expected::Expected;
 pub use library::Library;

@@ -2,13 +2,14 @@
 
 use std::process::ExitCode;
 
-use compare::{compare_part, replay, Kind};
+use compare::{compare_decisive, compare_part, replay, replay_decisive, Kind};
 use oracle::{help, Faults};
+use streams::DecisiveCall;
 
 const USAGE: &str = "\
 usage: compare CALLS [FIRST_SEED]
        compare replay FILE
-  CALLS       so many calls from openings are compared, and as many from garbage
+  CALLS       so many calls from openings are compared, as many from garbage, and a tenth as many that name a decisive timeout
   FIRST_SEED  runs follow from seeds from this one on, 0 if not given
   FILE        has the lines that a mismatch printed; they are played again
   --help      prints this";
@@ -31,23 +32,34 @@ fn perform(arguments: &[&str]) -> Result<(), String> {
     match arguments {
         ["replay", file] => {
             let text = std::fs::read_to_string(file).map_err(|error| format!("{file}: {error}"))?;
-            if let Some(mismatch) = replay(&text, Faults::NONE)? {
-                return Err(mismatch.to_string());
+            if let Some(mismatch) = replay_any(&text)? {
+                return Err(mismatch);
             }
             println!("no difference");
             Ok(())
         }
-        [calls] => compare_both(number(calls)?, 0),
-        [calls, first] => compare_both(number(calls)?, number(first)?),
+        [calls] => compare_all(number(calls)?, 0),
+        [calls, first] => compare_all(number(calls)?, number(first)?),
         _ => Err(USAGE.to_string()),
     }
 }
 
-fn compare_both(calls: u64, first: u64) -> Result<(), String> {
+/// A run, or one call that names a decisive timeout.
+fn replay_any(text: &str) -> Result<Option<String>, String> {
+    if text.lines().any(|line| line.starts_with("decisive ")) {
+        return Ok(replay_decisive(text, DecisiveCall::make)?.map(|mismatch| mismatch.to_string()));
+    }
+    Ok(replay(text, Faults::NONE)?.map(|mismatch| mismatch.to_string()))
+}
+
+fn compare_all(calls: u64, first: u64) -> Result<(), String> {
     for kind in [Kind::Opened, Kind::Garbage] {
         println!("{kind:?}, seeds from {first} on");
         let tally = compare_part(kind, first, calls, Faults::NONE).map_err(|mismatch| mismatch.to_string())?;
         println!("{tally}\n");
     }
+    println!("Decisive timeouts, seeds from {first} on");
+    let coverage = compare_decisive(first, calls / 10, DecisiveCall::make).map_err(|mismatch| mismatch.to_string())?;
+    println!("{coverage}");
     Ok(())
 }

@@ -4,8 +4,8 @@ use std::fmt;
 use std::str::FromStr;
 
 use oracle::lent::{Rooms, MEMORY_ROOM, OUTPUT_ROOM, STORE_ROOM};
-use oracle::{regions, wire, Block, Certificate, Faults, Height, Replica, Store, Timeout, View, Vote, GENESIS};
-use streams::{garbage, garbage_rooms, scatter, Call, Opening, Random, Stream};
+use oracle::{regions, wire, Block, Faults, Height, Replica, Store, View, GENESIS};
+use streams::{garbage, garbage_rooms, of_any_count, scatter, Call, Opening, Random, Stream};
 
 use crate::difference::Difference;
 use crate::expected::Expected;
@@ -219,17 +219,9 @@ impl Script {
         }
     }
 
-    /// A timeout certificate of any count, at times inside a proposal: its lengths are right, its senders ascend, and all but
-    /// the first n of them are outside of the cluster.
+    /// A timeout certificate of any count, at times inside a proposal.
     fn overlong(&mut self) -> Vec<u8> {
-        let most = self.random.pick(&[2, 33, 70, 600]);
-        let count = self.random.below(most) as u16;
-        let view = self.random.pick(&[View(1), View(2), View(0), View::MAX]);
-        let leader = self.random.below(self.opening.n) as u16;
-        let timeout = |sender| Timeout { sender, view, high_vote: Vote::NONE, certificate: Certificate::GENESIS };
-        let timeouts: Vec<Timeout> = (0..count).map(timeout).collect();
-        let mut inner = Vec::new();
-        wire::write_timeout_certificate(&mut inner, leader, view, &timeouts);
+        let (leader, view, inner) = of_any_count(self.opening.n, &mut self.random);
         if self.random.chance(50) {
             return inner;
         }

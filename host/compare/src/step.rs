@@ -36,7 +36,7 @@ impl fmt::Display for Step {
     }
 }
 
-fn hex(bytes: &[u8]) -> String {
+pub(crate) fn hex(bytes: &[u8]) -> String {
     bytes.iter().map(|byte| format!("{byte:02x}")).collect()
 }
 
@@ -65,13 +65,13 @@ fn parse(line: &str) -> Option<Step> {
     Some(Step { lent, call })
 }
 
-fn numbers<const COUNT: usize>(words: &[&str]) -> Option<[u64; COUNT]> {
+pub(crate) fn numbers<const COUNT: usize>(words: &[&str]) -> Option<[u64; COUNT]> {
     let numbers = words.iter().map(|word| word.parse().ok()).collect::<Option<Vec<u64>>>()?;
     numbers.try_into().ok()
 }
 
 /// One word, or none for no bytes.
-fn bytes(words: &[&str]) -> Option<Vec<u8>> {
+pub(crate) fn bytes(words: &[&str]) -> Option<Vec<u8>> {
     match words {
         [] => Some(Vec::new()),
         [word] => unhex(word),

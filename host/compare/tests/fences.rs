@@ -11,7 +11,7 @@ use std::process::Command;
 use compare::{AnyCall, Kind, Library, Run, Step};
 use replica::raw::{self, Lent, Reply};
 use replica::{Block, Counters, Name, Settings};
-use streams::Call;
+use streams::{Call, DecisiveStream};
 
 extern "C" {
     fn mmap(at: *mut c_void, length: usize, allow: c_int, flags: c_int, file: c_int, offset: c_long) -> *mut c_void;
@@ -143,6 +143,20 @@ fn calls_stay_inside_what_is_lent() {
                     assert!(fenced_reply == reply && fenced_left == left, "{run}: {step}");
                 }
             }
+        }
+    }
+}
+
+/// The same of the call that names the decisive timeout, which is lent a record alone.
+#[test]
+fn decisive_stays_inside_the_record() {
+    let mut fenced = Fenced::new(1 << 17);
+    for call in (0..400).flat_map(|seed| DecisiveStream::new(seed).take(20)) {
+        let [f, c, k, n] = call.settings;
+        let settings = Settings { f, c, k, n };
+        let answer = raw::decisive(settings, &call.record);
+        for behind in [true, false] {
+            assert_eq!(raw::decisive(settings, fenced.hold(&call.record, behind)), answer, "{call:?}");
         }
     }
 }

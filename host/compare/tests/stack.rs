@@ -6,11 +6,14 @@ use std::arch::asm;
 
 use compare::{AnyCall, Expected, Kind, Library, Run, Step};
 use oracle::lent::Rooms;
-use oracle::{wire, Block, Certificate, Faults, Height, Timeout, View, Vote};
-use streams::Call;
+use oracle::{wire, Block, Certificate, Faults, Height, Settings, Timeout, View, Vote};
+use replica::raw;
+use streams::{Call, DecisiveCall, DecisiveStream};
 
-/// What a call may take. Measured: 372,936 bytes where rule D passes over 263 decided names that aren't held.
+/// What a call may take. Measured: 372,920 bytes where rule D passes over 263 decided names that aren't held.
 const BOUND: usize = 384 * 1024;
+/// What the call that names the decisive timeout may take. Measured: 4,296 bytes.
+const BOUND_OF_DECISIVE: usize = 8 * 1024;
 /// What is painted, and the thread's stack.
 const PAINTED: usize = 512 * 1024;
 const STACK: usize = 1024 * 1024;
@@ -53,7 +56,7 @@ fn depths(rooms: Rooms, steps: impl IntoIterator<Item = Step>) -> [usize; 4] {
     deepest
 }
 
-fn on_a_thread(measure: impl FnOnce() -> [usize; 4] + Send + 'static) -> [usize; 4] {
+fn on_a_thread<T: Send + 'static>(measure: impl FnOnce() -> T + Send + 'static) -> T {
     let thread = std::thread::Builder::new().stack_size(STACK).spawn(measure).expect("a thread");
     thread.join().expect("a depth")
 }
@@ -280,4 +283,65 @@ fn stack_of_many_releases() {
     let [_, _, timer, _] = depth_of_release(rooms, step(AnyCall::Call(Call::Timer(5))), 127);
     println!("many releases: {timer} bytes of stack in timer");
     assert!(timer > 0 && timer <= BOUND);
+}
+
+/// The deepest of these calls.
+fn depth_of_decisive(calls: Vec<DecisiveCall>) -> usize {
+    on_a_thread(move || {
+        let depth = |call: &DecisiveCall| {
+            let [f, c, k, n] = call.settings;
+            depth_of(|| {
+                raw::decisive(replica::Settings { f, c, k, n }, &call.record);
+            })
+        };
+        calls.iter().map(depth).max().expect("at least one call")
+    })
+}
+
+/// A certificate of all replicas, of view 90, whose timeouts have what is given for each sender.
+fn full_certificate(settings: Settings, given: impl Fn(u64) -> (Vote, Certificate)) -> DecisiveCall {
+    let n = settings.n();
+    let timeout = |sender: u32| {
+        let (high_vote, certificate) = given(sender.into());
+        Timeout { sender: sender as u16, view: View(90), high_vote, certificate }
+    };
+    let timeouts: Vec<Timeout> = (0..n).map(timeout).collect();
+    let mut record = Vec::new();
+    wire::write_timeout_certificate(&mut record, 0, View(90), &timeouts);
+    let settings = [settings.f(), settings.c(), settings.k(), n].map(u64::from);
+    DecisiveCall { settings, record }
+}
+
+/// Of all clusters of 32: certificates and high votes each above the one before, each below it, all of one name, or in
+/// pairs. Where none is decisive each timeout is left out once.
+fn full_certificates() -> Vec<DecisiveCall> {
+    let vote = |number: u64| Vote { view: View(1 + number), name: name(number) };
+    let weak = |number| Certificate::weak(View(1 + number), name(number), 0xFFFF_FFFF);
+    let high_vote = |number| (vote(number), Certificate::GENESIS);
+    let carried = |number| (Vote::NONE, weak(number));
+    let largest = Settings::all().into_iter().filter(|settings| settings.n() == 32);
+    let calls = largest.flat_map(|settings| {
+        [
+            full_certificate(settings, high_vote),
+            full_certificate(settings, |sender| high_vote(31 - sender)),
+            full_certificate(settings, |sender| high_vote(sender / 2)),
+            full_certificate(settings, |_| high_vote(31)),
+            full_certificate(settings, carried),
+            full_certificate(settings, |sender| carried(31 - sender)),
+            full_certificate(settings, |sender| (vote(31 - sender), weak(sender / 2))),
+            full_certificate(settings, |_| (vote(40), weak(31))),
+        ]
+    });
+    calls.collect()
+}
+
+/// The deepest inputs known are certificates of 32 timeouts.
+#[test]
+fn stack_of_decisive() {
+    let seeded = (0..200).flat_map(|seed| DecisiveStream::new(seed).take(20));
+    let full = full_certificates();
+    assert!(full.iter().all(|call| call.make().is_ok()));
+    let (seeded, full) = (depth_of_decisive(seeded.collect()), depth_of_decisive(full));
+    println!("decisive: {seeded} bytes of stack in seeded calls, {full} with certificates of all of 32 replicas");
+    assert!([seeded, full].iter().all(|&depth| depth > 0 && depth <= BOUND_OF_DECISIVE));
 }

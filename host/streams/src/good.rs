@@ -384,3 +384,15 @@ pub fn record(write: impl FnOnce(&mut Vec<u8>)) -> Vec<u8> {
     write(&mut bytes);
     bytes
 }
+
+/// A timeout certificate of any count, with its sender and view: its lengths are right, its senders ascend, and all but the
+/// first n of them are outside of the cluster.
+pub fn of_any_count(n: u64, random: &mut Random) -> (u16, View, Vec<u8>) {
+    let most = random.pick(&[2, 33, 70, 600]);
+    let count = random.below(most) as u16;
+    let view = random.pick(&[View(1), View(2), View(0), View::MAX]);
+    let sender = random.below(n) as u16;
+    let timeout = |sender| Timeout { sender, view, high_vote: Vote::NONE, certificate: Certificate::GENESIS };
+    let timeouts: Vec<Timeout> = (0..count).map(timeout).collect();
+    (sender, view, record(|out| wire::write_timeout_certificate(out, sender, view, &timeouts)))
+}

@@ -1,8 +1,9 @@
 //! Seeded inputs for one replica. A stream looks at the replica's state, so that many calls are accepted and every
-//! refusal, rule and limit comes up.
+//! refusal, rule and limit comes up. One more kind of stream is for the call that touches no replica.
 
 mod call;
 mod coverage;
+mod decisive;
 mod garbage;
 mod good;
 mod input;
@@ -15,7 +16,9 @@ mod stream;
 
 pub use call::Call;
 pub use coverage::{Coverage, Kind, Path, REACHABLE, UNREACHABLE};
+pub use decisive::{Decided, DecisiveAnswer, DecisiveCall, DecisiveCoverage, DecisiveStream, Outcome};
 pub use garbage::garbage;
+pub use good::of_any_count;
 pub use input::{input, play, Played};
 pub use lent::{garbage_rooms, lent_input, scatter, LentCoverage};
 pub use opening::Opening;

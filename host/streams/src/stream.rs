@@ -252,7 +252,7 @@ impl Maker<'_> {
     }
 
     /// Bytes without any sense, or a header without a record.
-    fn noise(&mut self) -> Vec<u8> {
+    pub fn noise(&mut self) -> Vec<u8> {
         let length = self.random.below(140);
         let mut bytes: Vec<u8> = (0..length).map(|_| self.random.number() as u8).collect();
         if bytes.len() >= 8 && self.random.chance(70) {
