@@ -16,6 +16,7 @@ mod rounds;
 pub mod scenarios;
 mod script;
 pub mod settings;
+pub mod timeouts;
 pub mod words;
 
 pub use crate::core::{Core, Proved};
