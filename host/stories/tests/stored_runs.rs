@@ -8,10 +8,10 @@ use std::path::PathBuf;
 
 use common::answers;
 use oracle::wire::{self, kind};
-use oracle::{Faults, Protocol, Replica};
+use oracle::{Faults, Name, Protocol, Replica};
 use sim::Proved;
 use stories::StoredRun;
-use view::{Event, Played, Recording, Shown};
+use view::{Choice, DecidedBy, Event, Played, Recording, Shown};
 
 fn folder() -> PathBuf {
     PathBuf::from(env!("CARGO_MANIFEST_DIR")).join("../runs")
@@ -103,6 +103,7 @@ fn runs_end_at_their_heights() {
         ("fast-release", 2),
         ("slow-release", 2),
         ("view-change-keeps-a", 2),
+        ("decisive-timeout", 2),
         ("story-3", 1),
         ("damaged", 1),
         ("ten-fast-release", 3),
@@ -174,4 +175,18 @@ fn two_rules_run_in_one_call() {
     assert_eq!(writing("one-vote-decides", &[3, 2, 9]), [17, 34]);
     assert_eq!(writing("one-vote-decides", &[1, 3, 2, 9]), [51]);
     assert_eq!(writing("one-timeout-decides", &[5, 6]), [1]);
+}
+
+/// 02's 2.3: A is chosen by the timeout of 2, and the next leader builds on it.
+#[test]
+fn the_next_leader_builds_on_what_one_timeout_decides() {
+    let [a, b]: [Name; 2] = [[b'A'; 32], [b'B'; 32]];
+    let events = accepted("decisive-timeout");
+    let choices: Vec<(usize, Choice)> =
+        events.iter().flat_map(|event| event.choices.iter().map(|choice| (event.index, *choice))).collect();
+    let decided_by = DecidedBy::Timeout { sender: 2, otherwise: b };
+    assert_eq!(choices, [(3, Choice { view: 1, safe: a, decided_by })]);
+    let mut written = events.iter().flat_map(|event| &event.written);
+    let proposal = written.find(|record| wire::kind_of(record) == kind::PROPOSAL).expect("a proposal");
+    assert_eq!(wire::name_at(proposal, 48), a);
 }

@@ -7,6 +7,7 @@ use std::collections::HashMap;
 use oracle::wire::{self, kind};
 use oracle::{Name, Protocol};
 
+use crate::choice::Choice;
 use crate::marks::{Mark, Shape};
 use crate::meaning::answer_words;
 use crate::play::{Event, Lane, Played};
@@ -208,6 +209,7 @@ fn title(event: &Event, protocol: &Protocol) -> String {
         answer_words(event.answer, event.kind()),
     ];
     lines.extend(written_words(event, protocol).into_iter().map(|words| format!("writes {words}")));
+    lines.extend(event.choices.iter().map(Choice::to_string));
     lines.push(state_words(&event.after));
     lines.join("\n")
 }

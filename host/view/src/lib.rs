@@ -2,6 +2,7 @@
 //! are anything that is a `Shown`: the proved library and the oracle are.
 
 mod captions;
+mod choice;
 mod lanes;
 mod layout;
 mod marks;
@@ -19,12 +20,13 @@ mod text;
 mod tracks;
 mod unsent;
 
+pub use choice::{Choice, DecidedBy};
 pub use meaning::{answer_words, meaning};
 pub use page::page;
 pub use panel::{verdict, Panel};
 pub use picture::picture;
 pub use play::{join, play, Event, Lane, Opened, Played, State};
 pub use recording::{Entry, Error, Recording, Step, MAGIC};
-pub use shown::Shown;
+pub use shown::{Decisive, Shown};
 pub use summary::Summary;
 pub use text::{call_words, written_words, Timeline};

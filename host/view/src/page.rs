@@ -20,6 +20,7 @@ details{margin:14px 4px}summary{cursor:pointer;font-weight:bold;padding:4px 0}\
 table{border-collapse:collapse;margin-top:8px}td,th{text-align:left;vertical-align:top;padding:3px 10px 3px 0;\
 border-top:1px solid #ddd;font-size:12.5px}th{border-top:0}td.number{text-align:right}td.lock{white-space:nowrap}\
 tr.view td{font-weight:bold;padding-top:12px;border-top:2px solid #888}tr.refused{color:#777}tr.release td{font-weight:bold}\
+tr.choice td{border-top:0;font-style:italic}\
 @media print{.picture svg{width:100%;height:auto}}";
 
 pub fn page(title: &str, panels: &[Panel]) -> String {
@@ -72,6 +73,10 @@ fn write_row(html: &mut String, event: &Event, played: &Played) {
     let _ = write!(html, "<td>{}</td>", written.join("<br>"));
     let _ = write!(html, "{}{}", number(view), number(timed));
     let _ = writeln!(html, "<td class=\"lock\">{}</td>{}</tr>", lock_words(lock), number(height));
+    for choice in &event.choices {
+        let words = escape(&choice.to_string());
+        let _ = writeln!(html, "<tr class=\"choice\"><td colspan=\"2\"></td><td colspan=\"7\">{words}</td></tr>");
+    }
 }
 
 fn number(value: impl Display) -> String {

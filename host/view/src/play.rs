@@ -3,6 +3,7 @@
 use oracle::wire::{self, kind};
 use oracle::{Leaders, Name, Protocol, Refusal, View};
 
+use crate::choice::{Choice, Choices};
 use crate::recording::{Call, Error, Recording, Step};
 use crate::shown::{hand_in, Shown};
 
@@ -34,6 +35,8 @@ pub struct Event {
     pub written: Vec<Vec<u8>>,
     pub before: State,
     pub after: State,
+    /// The choices of the timeout certificates that first come up with it.
+    pub choices: Vec<Choice>,
     /// The highest view so far that an accepted call was about and its replica had come to.
     pub reached: u64,
 }
@@ -177,6 +180,7 @@ pub fn play<C: Shown, E>(
 ) -> Result<(), E> {
     let mut replicas: Vec<(u16, C)> =
         recording.opened.iter().map(|&own| (own, open(recording, options, own))).collect();
+    let mut choices = Choices::default();
     let mut reached = 1;
     for (at, entry) in recording.entries.iter().enumerate() {
         let (_, replica) = replicas.iter_mut().find(|(own, _)| *own == entry.replica).expect("it is opened");
@@ -184,6 +188,7 @@ pub fn play<C: Shown, E>(
         event.index = at + 1;
         if event.is_accepted() {
             reached = reached.max(event.subject().unwrap_or(0).min(event.after.view));
+            event.choices = choices.of(&event, replica, recording.settings);
         }
         event.reached = reached;
         let stops = !recording.is_cluster && event.answer == Refusal::Length.number();
@@ -213,6 +218,7 @@ fn call<C: Shown>(replica: &mut C, own: u16, record: &[u8]) -> Event {
         written: wire::records(&output).map(<[u8]>::to_vec).collect(),
         before,
         after: State::of(replica),
+        choices: Vec::new(),
         reached: 0,
     }
 }

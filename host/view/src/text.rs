@@ -1,4 +1,4 @@
-//! The timeline as text: one line for each call, grouped by view.
+//! The timeline as text: one line for each call, grouped by view, and below it whose timeout decided.
 
 use std::io::{self, Write};
 
@@ -75,7 +75,8 @@ impl<'a, W: Write> Timeline<'a, W> {
         for step in self.opened.steps.iter().filter(|step| step.first + 1 == event.index) {
             writeln!(self.out, "  -- {}", step.caption)?;
         }
-        self.line(event)
+        self.line(event)?;
+        event.choices.iter().try_for_each(|choice| writeln!(self.out, "          {choice}"))
     }
 
     fn line(&mut self, event: &Event) -> io::Result<()> {
