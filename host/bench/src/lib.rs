@@ -5,6 +5,7 @@
 //! call's output to, and that isn't cleared. A round plays all calls, each script on one side and at once on the
 //! other; the first round warms up and isn't counted. A figure is a mean over calls of each call's median over the rounds.
 
+pub mod decisive;
 pub mod held;
 pub mod kinds;
 pub mod life;

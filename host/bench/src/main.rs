@@ -4,7 +4,7 @@ use std::process::ExitCode;
 use std::{fmt, fs, io, path::Path};
 
 use bench::table::Table;
-use bench::{held, kinds, markdown, plot, releases, size, timeouts};
+use bench::{decisive, held, kinds, markdown, plot, releases, size, timeouts};
 use oracle::help;
 
 const USAGE: &str = "\
@@ -21,10 +21,11 @@ sections:
   size      accepted calls of a cluster at work; n 6 to 32
   held      accepted calls while 0 to 120 blocks are held above the tip; n 6
   timeouts  one view change by timeouts; n 6, 13, 32
+  decisive  whose timeout decided a timeout certificate; n 6 to 32
   releases  chains of 1 to 128 blocks released at once, and the longest calls known";
 
 /// In the document's order.
-const SECTIONS: [&str; 5] = ["kinds", "size", "held", "timeouts", "releases"];
+const SECTIONS: [&str; 6] = ["kinds", "size", "held", "timeouts", "decisive", "releases"];
 
 struct Options {
     calls: usize,
@@ -103,6 +104,7 @@ fn measure(section: &str, options: &Options) -> Table {
         "size" => size::measure(options.rounds),
         "held" => held::measure(options.rounds),
         "timeouts" => timeouts::measure(options.rounds),
+        "decisive" => decisive::measure(options.rounds),
         _ => releases::measure(options.rounds),
     };
     print(&table, &[&table], options);

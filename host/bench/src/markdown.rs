@@ -11,6 +11,7 @@ pub fn section(table: &Table) -> String {
         "timeouts" => {
             ("Every view times out", list(table, &["n", "timeouts taken", "refused as late", "one view change"]))
         }
+        "decisive" => ("Whose timeout decided", decisive(table)),
         _ => ("Releases", list(table, &["n", "released", "the call"])),
     };
     format!("## {heading}\n\n{tables}")
@@ -29,6 +30,11 @@ fn size(table: &Table) -> String {
 fn held(table: &Table) -> String {
     let title = |row: &Row| format!("{}: {}", row.labels[1], words(&row.labels[2]));
     let cell = |row: &Row| (title(row), format!("{} held", row.labels[0]), row.times);
+    grid("", table.rows.iter().map(cell).collect())
+}
+
+fn decisive(table: &Table) -> String {
+    let cell = |row: &Row| (row.labels[1].clone(), format!("n {}", row.labels[0]), row.times);
     grid("", table.rows.iter().map(cell).collect())
 }
 

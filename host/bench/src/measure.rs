@@ -38,31 +38,12 @@ pub struct Times {
 }
 
 impl Times {
-    /// The times of each case. A round plays all cases, each script on one side and at once on the other, so that a slow
-    /// while of the machine slows both; the first round warms up and isn't counted.
+    /// The times of each case, each script played on one side and at once on the other.
     pub fn measure(cases: &[Vec<Script>], rounds: usize) -> Vec<Times> {
         let opening = cases[0][0].opening;
         let mut sides: [Box<dyn Side>; 2] = [Box::new(Library::new(opening)), Box::new(Oracle::new(opening))];
-        let mut times: Vec<[Vec<Vec<u32>>; 2]> = cases.iter().map(|_| Default::default()).collect();
-        let mut nothing = Vec::new();
-        for round in 0..=rounds {
-            nothing.push(time_nothing());
-            for (case, times) in cases.iter().zip(&mut times) {
-                let [library, oracle] = time_case(&mut sides, case);
-                if round > 0 {
-                    times[0].push(library);
-                    times[1].push(oracle);
-                }
-            }
-        }
-        let clock = medians(&nothing).sum::<f64>() / nothing[0].len() as f64;
-        cases.iter().zip(times).map(|(case, times)| Times::of(case, times, clock)).collect()
-    }
-
-    fn of(case: &[Script], times: [Vec<Vec<u32>>; 2], clock: f64) -> Times {
-        let marks = case.iter().flat_map(|script| &script.calls).map(|(_, mark)| *mark);
-        let sides = times.map(|rounds| medians(&rounds).map(|time| (time - clock).max(0.0)).collect());
-        Times { marks: marks.filter(|mark| *mark != Mark::Untimed).collect(), sides }
+        let times = medians_of(cases, rounds, |case| time_case(&mut sides, case));
+        cases.iter().zip(times).map(|(case, sides)| Times { marks: timed_marks(case), sides }).collect()
     }
 
     /// The mean over the calls that are asked for; none where there are none.
@@ -79,6 +60,33 @@ impl Times {
     }
 }
 
+/// The marks of the calls that are timed.
+fn timed_marks(case: &[Script]) -> Vec<Mark> {
+    let marks = case.iter().flat_map(|script| &script.calls).map(|(_, mark)| *mark);
+    marks.filter(|mark| *mark != Mark::Untimed).collect()
+}
+
+/// Of each case the nanoseconds of its calls, library then oracle: each call's median over the rounds, less what measuring
+/// takes by itself. A round plays all cases, so that a slow while of the machine slows all; the first round warms up and
+/// isn't counted.
+fn medians_of<C>(cases: &[C], rounds: usize, mut time: impl FnMut(&C) -> [Vec<u32>; 2]) -> Vec<[Vec<f64>; 2]> {
+    let mut times: Vec<[Vec<Vec<u32>>; 2]> = cases.iter().map(|_| Default::default()).collect();
+    let mut nothing = Vec::new();
+    for round in 0..=rounds {
+        nothing.push(time_nothing());
+        for (case, times) in cases.iter().zip(&mut times) {
+            let [library, oracle] = time(case);
+            if round > 0 {
+                times[0].push(library);
+                times[1].push(oracle);
+            }
+        }
+    }
+    let clock = medians(&nothing).sum::<f64>() / nothing[0].len() as f64;
+    let less_clock = |rounds: Vec<Vec<u32>>| medians(&rounds).map(|time| (time - clock).max(0.0)).collect();
+    times.into_iter().map(|sides| sides.map(less_clock)).collect()
+}
+
 /// Of each place its median over the rounds: a round in which something else ran meanwhile doesn't count.
 fn medians(rounds: &[Vec<u32>]) -> impl Iterator<Item = f64> + '_ {
     (0..rounds[0].len()).map(|place| {
@@ -86,6 +94,25 @@ fn medians(rounds: &[Vec<u32>]) -> impl Iterator<Item = f64> + '_ {
         times.sort_unstable();
         times[times.len() / 2].into()
     })
+}
+
+/// Of each case the mean over its inputs of a call that keeps no state, library then oracle. A call says whether its answer
+/// is the right one. It is made twice and the second is timed: else the side that comes first would fetch the input into
+/// the cache for the other.
+pub fn measure_calls<T>(cases: &[Vec<T>], calls: [fn(&T) -> bool; 2], rounds: usize) -> Vec<[f64; 2]> {
+    let mean = |times: Vec<f64>| times.iter().sum::<f64>() / times.len() as f64;
+    let times = medians_of(cases, rounds, |inputs| calls.map(|call| time_inputs(inputs, call)));
+    times.into_iter().map(|sides| sides.map(mean)).collect()
+}
+
+fn time_inputs<T>(inputs: &[T], call: fn(&T) -> bool) -> Vec<u32> {
+    let time = |input| {
+        assert!(call(input));
+        let start = Instant::now();
+        black_box(call(input));
+        start.elapsed().as_nanos() as u32
+    };
+    inputs.iter().map(time).collect()
 }
 
 fn time_case(sides: &mut [Box<dyn Side>; 2], scripts: &[Script]) -> [Vec<u32>; 2] {

@@ -3,7 +3,7 @@
 use bench::measure::{Mark, Script, Times};
 use bench::sides::{Library, Oracle, Side};
 use bench::table::{Row, Table};
-use bench::{held, kinds, markdown, plot, releases, size, timeouts};
+use bench::{decisive, held, kinds, markdown, plot, releases, size, timeouts};
 use streams::Kind;
 
 fn assert_alike(script: &Script) {
@@ -29,8 +29,8 @@ fn both_sides_answer_a_cluster_at_work_alike() {
 /// One round of each section: the calls fit their states, or it would panic.
 #[test]
 fn sections_are_whole() {
-    let tables = [held::measure(1), timeouts::measure(1), size::measure(1), releases::measure(1)];
-    for (table, rows) in tables.iter().zip([32, 3, 24, 14]) {
+    let tables = [held::measure(1), timeouts::measure(1), size::measure(1), releases::measure(1), decisive::measure(1)];
+    for (table, rows) in tables.iter().zip([32, 3, 24, 14, 24]) {
         assert_eq!(table.rows.len(), rows, "{}", table.name);
         assert!(table.rows.iter().all(|row| row.times.iter().all(|time| *time > 0.0)), "{table}");
         assert_eq!(table.csv().lines().count(), rows + 1);
@@ -73,6 +73,7 @@ fn tables_as_markdown_are_those_of_the_document() {
     let [first, behind] = ["## Every kind of call", "## Where the time goes"].map(|heading| document.find(heading));
     let document = &document[first.expect("the first table")..behind.expect("what follows the tables")];
     let kinds = kinds::table(&kinds::measure(6000, 1));
-    let tables = [kinds, size::measure(1), held::measure(1), timeouts::measure(1), releases::measure(1)];
+    let [size, held, timeouts] = [size::measure(1), held::measure(1), timeouts::measure(1)];
+    let tables = [kinds, size, held, timeouts, decisive::measure(1), releases::measure(1)];
     assert_eq!(forms(&tables.each_ref().map(markdown::section).concat()), forms(document));
 }

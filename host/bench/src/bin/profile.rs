@@ -1,11 +1,13 @@
 //! Plays calls on the library for a profiler, random streams or a cluster at work. Calls of the kind and answer asked
-//! for go through the function `profiled`, all others through `others`:
+//! for go through the function `profiled`, all others through `others`. Or asks whose timeout decided a timeout
+//! certificate, all in `profiled_question`:
 //!
 //!     valgrind --tool=callgrind --toggle-collect='*profiled*' target/release/profile work 13 Vote accepted
 
 use std::hint::black_box;
 use std::process::ExitCode;
 
+use bench::decisive::{Case, Question};
 use bench::sides::{Library, Oracle, Side};
 use bench::size;
 use oracle::help;
@@ -13,12 +15,15 @@ use streams::{play, Call, Coverage, Kind, Opening};
 
 const USAGE: &str = "\
 usage: profile streams|work N KIND accepted|refused [RUNS]
+       profile decisive N CASE [RUNS]
 plays calls on the library: in the function `profiled` those of that kind and answer, in `others` all others
   streams, work      random streams, or a cluster at work
+  decisive           the call on a timeout certificate, in `profiled_question`
   N                  the cluster's size: 6, 9, 13, 18, 24 or 32
   KIND               Vote, Commit, BlockCertificate, Timeout, TimeoutCertificate, Proposal, Block, Timer, Propose, or
                      Foreign: a record of no kind that a replica takes
   accepted, refused  the answer
+  CASE               Enough, Alike, Different or ByTurns: the timeouts, as `bench --section decisive` has them
   RUNS               how many runs, 2 if not given
   --help             prints this";
 
@@ -44,25 +49,46 @@ impl Asked {
             settings: size::SETTINGS.into_iter().find(|(f, c, k)| 3 * f + 2 * c + k + 1 == n)?,
             kind: Kind::ALL.into_iter().find(|known| format!("{known:?}") == *kind)?,
             accepted: answer == "accepted",
-            runs: rest.first().map_or(Some(2), |text| text.parse().ok())?,
+            runs: read_runs(rest)?,
         })
     }
+
+    /// How many calls were of that kind and answer.
+    fn run(&self) -> usize {
+        (0..self.runs).map(|seed| run((self.make)(self.settings, seed), self.kind, self.accepted)).sum()
+    }
+}
+
+fn read_runs(rest: &[String]) -> Option<u64> {
+    rest.first().map_or(Some(2), |text| text.parse().ok())
 }
 
 fn main() -> ExitCode {
     help::answer(USAGE);
     let arguments: Vec<String> = std::env::args().skip(1).collect();
-    let Some(Asked { make, settings, kind, accepted, runs }) = Asked::read(&arguments) else {
+    let found = match arguments.first().map(String::as_str) {
+        Some("decisive") => run_decisive(&arguments[1..]),
+        _ => Asked::read(&arguments).map(|asked| asked.run()),
+    };
+    let Some(found) = found else {
         eprintln!("{USAGE}");
         return ExitCode::FAILURE;
     };
-    let found: usize = (0..runs).map(|seed| run(make(settings, seed), kind, accepted)).sum();
     println!("{found} calls");
     ExitCode::SUCCESS
 }
 
 type Settings = (u64, u64, u64);
 type Calls = (Opening, Vec<Call>);
+
+/// Makes the calls on timeout certificates and counts them; none where the arguments can't be read.
+fn run_decisive(arguments: &[String]) -> Option<usize> {
+    let [n, case, rest @ ..] = arguments else { return None };
+    let case = Case::ALL.into_iter().find(|known| format!("{known:?}") == *case)?;
+    let settings = case.cluster(n.parse().ok()?)?;
+    let questions = (0..read_runs(rest)?).map(|seed| case.question(settings, seed));
+    Some(questions.filter(|question| black_box(profiled_question(question))).count())
+}
 
 fn stream((f, c, k): Settings, seed: u64) -> Calls {
     let opening = Opening::new(f, c, k, seed % (3 * f + 2 * c + k + 1)).expect("good settings");
@@ -93,6 +119,11 @@ fn run((opening, calls): Calls, kind: Kind, accepted: bool) -> usize {
 #[inline(never)]
 fn profiled(library: &mut Library, call: &Call) -> bool {
     library.make(black_box(call))
+}
+
+#[inline(never)]
+fn profiled_question(question: &Question) -> bool {
+    question.ask_library()
 }
 
 #[inline(never)]
