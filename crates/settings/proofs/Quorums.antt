@@ -1,10 +1,15 @@
--- The inequalities between the quorums on which safety rests, for all f, c, k with no bound on k. Assumes nothing.
+-- That the block quorum is 01's number, and the inequalities between the quorums on which safety rests, for all f, c, k with no bound. Assumes nothing.
 use Prim.Native.Nat.{_+_, _*_, _≤_, _<_}
+use mathlib.Core.Path.{_≡_}
 use native.Mathlib.Omega.{arith}
 use Rattle.settings.specs.declared.Settings.{Settings}
-use Rattle.settings.specs.Quorum.{replicas, slack, blockQuorum, weakQuorum, timeoutQuorum, slowQuorum, fastQuorum}
+use Rattle.settings.specs.Quorum.{replicas, slack, intersectionQuorum, weakQuorum, timeoutQuorum, slowQuorum, fastQuorum, blockQuorum}
 
 module _ (s : Settings) where
+  -- 02, 2.4: "show that it is 01's number for every setting"
+  pub block-as-before : blockQuorum s ≡ intersectionQuorum s
+  block-as-before = omega arith
+
   -- two block quorums share more than f replicas, and any two quorums of that size more than none
   pub block-block : replicas s + s .f + 1 ≤ 2 * blockQuorum s
   block-block = omega arith

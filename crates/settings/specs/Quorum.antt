@@ -1,4 +1,4 @@
--- The number of replicas, p and the five quorums, from the settings alone (01: Settings and thresholds). Assumes nothing.
+-- The number of replicas, p and the five quorums, from the settings alone (01: Settings and thresholds; 02: 2.4). Assumes nothing.
 use Prim.Native.Nat.{ℕ, _+_, _-_, _*_, _/_, _^_}
 use Rattle.settings.specs.declared.Settings.{Settings}
 
@@ -13,6 +13,10 @@ lastView = 2 ^ 62
 abbrev pub lastHeight : ℕ
 lastHeight = 2 ^ 62
 
+-- half of a number, rounded up
+abbrev pub halfUp : ℕ → ℕ
+halfUp a = (a + 1) / 2
+
 module _ (s : Settings) where
   -- n = 3f + 2c + k + 1
   abbrev pub replicas : ℕ
@@ -22,9 +26,9 @@ module _ (s : Settings) where
   abbrev pub slack : ℕ
   slack = (s .c + s .k) / 2
 
-  -- block certificate: (n + f + 1) / 2 rounded up
-  abbrev pub blockQuorum : ℕ
-  blockQuorum = (replicas + s .f + 2) / 2
+  -- block certificate: (n + f + 1) / 2 rounded up. This is 01's way to say it; what the calls use is `blockQuorum` below, the same number
+  abbrev pub intersectionQuorum : ℕ
+  intersectionQuorum = halfUp (replicas + s .f + 1)
 
   -- weak certificate: f + p + 1
   abbrev pub weakQuorum : ℕ
@@ -41,3 +45,7 @@ module _ (s : Settings) where
   -- fast release: n - p votes
   abbrev pub fastQuorum : ℕ
   fastQuorum = replicas - slack
+
+  -- block certificate; 02, 2.4: "the slow release's number plus (k+1)/2 rounded down". For every s it is 01's number: `block-as-before` (proofs/Quorums.antt)
+  abbrev pub blockQuorum : ℕ
+  blockQuorum = slowQuorum + (s .k + 1) / 2

@@ -46,10 +46,11 @@ impl Settings {
         ((self.c as u64) + (self.k as u64)) / 2
     }
 
+    // 01's (n + f + 1) / 2 rounded up, with no branch on whether the sum is odd (02, 2.4).
     pub fn block_quorum(self) -> u64
         ensures { λ r. ⌜ r ≡ blockQuorum self ⌝ }
     {
-        (self.n() + (self.f as u64) + 2) / 2
+        self.slow_quorum() + ((self.k as u64) + 1) / 2
     }
 
     pub fn weak_quorum(self) -> u64
