@@ -59,9 +59,10 @@ impl Settings {
         (self.c + self.k) / 2
     }
 
-    /// 01: "block certificate: (n+f+1)/2 rounded up"
+    /// For a block certificate. 02, 2.4: "the slow release's number plus (k+1)/2 rounded down, without a branch"
+    #[allow(clippy::manual_div_ceil)] // which asks whether there is a remainder
     pub const fn block_quorum(self) -> u32 {
-        (self.n() + self.f + 1).div_ceil(2)
+        self.slow_quorum() + (self.k + 1) / 2
     }
 
     /// 01: "weak certificate: f+p+1"

@@ -29,6 +29,14 @@ fn settings_give_n_and_thresholds() {
     }
 }
 
+/// 02, 2.4: "show that it is 01's number for every setting", and 01: "block certificate: (n+f+1)/2 rounded up".
+#[test]
+fn block_quorum_is_01s_number() {
+    for s in Settings::all() {
+        assert_eq!(s.block_quorum(), (s.n() + s.f() + 1).div_ceil(2), "{s:?}");
+    }
+}
+
 fn is_refused(f: u64, c: u64, k: u64, n: u64, own: u64) -> bool {
     match Replica::open(f, c, k, n, own, &[0]) {
         Ok(_) => false,
