@@ -26,7 +26,8 @@ module _ (s : Settings) where
   abbrev pub slack : ℕ
   slack = (s .c + s .k) / 2
 
-  -- block certificate: (n + f + 1) / 2 rounded up. This is 01's way to say it; what the calls use is `blockQuorum` below, the same number
+  -- block certificate: (n + f + 1) / 2 rounded up, so that two groups of so many replicas share more than f. This is 01's way to say it; what the calls use is
+  -- `blockQuorum` below, the same number
   abbrev pub intersectionQuorum : ℕ
   intersectionQuorum = halfUp (replicas + s .f + 1)
 
