@@ -1,6 +1,6 @@
 -- The laws of little-endian bytes, over the byte count. Assumes nothing.
 use mathlib.Core.Path.{_≡_, refl, ap, ap₂, _∙_}
-use mathlib.Core.List.{List, [], _∷_}
+use mathlib.Core.List.{List, [], _∷_, _++_}
 use Prim.Native.Nat.{ℕ, zero, suc, _+_, _*_, _-_, _/_, _%_, _^_, _≤_, _<_}
 use native.Mathlib.Numerals.{add-one}
 use native.Mathlib.Nat.{lt-of-lt-of-le, pow-le-pow-right, pow-suc}
@@ -23,6 +23,11 @@ bytes-take (suc n) (x ∷ s) b (suc i) = bytes-take n s (λ j. b (suc j)) i
 pub bytes-part : (s : List ℕ) (at n : ℕ) → IsBytes s → IsBytes (part s at n)
 unfolding part
 bytes-part s at n b = bytes-take n (drop at s) (bytes-drop at s b)
+
+pub bytes-append : (s t : List ℕ) → IsBytes s → IsBytes t → IsBytes (s ++ t)
+bytes-append [] t hs ht i = ht i
+bytes-append (x ∷ s) t hs ht zero = hs 0
+bytes-append (x ∷ s) t hs ht (suc i) = bytes-append s t (λ j. hs (suc j)) ht i
 
 -- THE fact over the byte count: k bytes make a number below 256 ^ k
 pub leNat-lt : (s : List ℕ) → IsBytes s → leNat s < 256 ^ length s

@@ -9,15 +9,10 @@ use lib.ListN.{length, take, drop, length-append, take-append-drop}
 use lib.Seq.{take-at, drop-at, drop-drop}
 use Rattle.codec.specs.Bytes.{IsBytes, leNat, leBytes, part}
 use Rattle.codec.proofs.Laws.{length-part}
-use Rattle.codec.proofs.Le.{bytes-part, leNat-lt, length-leBytes, leNat-leBytes, leBytes-leNat}
+use Rattle.codec.proofs.Le.{bytes-append, bytes-part, leNat-lt, length-leBytes, leNat-leBytes, leBytes-leNat}
 use Rattle.wire.specs.Fit.{All}
 
 -- ---- bytes
-pub bytes-append : (s t : List ℕ) → IsBytes s → IsBytes t → IsBytes (s ++ t)
-bytes-append [] t hs ht i = ht i
-bytes-append (x ∷ s) t hs ht zero = hs 0
-bytes-append (x ∷ s) t hs ht (suc i) = bytes-append s t (λ j. hs (suc j)) ht i
-
 pub bytes-leBytes : (k n : ℕ) → IsBytes (leBytes k n)
 unfolding leBytes
 bytes-leBytes zero n i = lit< tt

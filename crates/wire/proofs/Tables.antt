@@ -13,7 +13,8 @@ use Rattle.wire.specs.Content.{Certificate, byBlock, byTimeouts, Content
 use Rattle.wire.specs.Encode.{headerBytes, voteBytes, blockCertificateBytes, timeoutBytes, timeoutsBytes, proposalBytes, blockBytes, releaseBytes, joined, certificateBytes, encode}
 use Rattle.wire.specs.Fit.{IsName, TimeoutFits, All, CertificateFits, Fits}
 use Rattle.wire.proofs.Lengths.{length-timeout, length-timeouts, length-blockCertificate}
-use Rattle.wire.proofs.Rows.{Field, num, raw, FieldFits, width, written, Reads, length-written, bytes-written, bytes-append, drop-written, reads-written, written-reads, fits-reads}
+use Rattle.codec.proofs.Le.{bytes-append}
+use Rattle.wire.proofs.Rows.{Field, num, raw, FieldFits, width, written, Reads, length-written, bytes-written, drop-written, reads-written, written-reads, fits-reads}
 
 -- the header, then the others
 abbrev headed : ℕ → ℕ → ℕ → List Field → List Field

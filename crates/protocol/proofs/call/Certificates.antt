@@ -13,13 +13,13 @@ use Rattle.settings.specs.Quorum.{largest, lastView, replicas}
 use Rattle.codec.specs.Bytes.{IsBytes, part, leNat, leBytes}
 use Rattle.codec.specs.Names.{nameLength}
 use Rattle.codec.proofs.Laws.{part-before, part-behind, length-patch, bytes-patch}
-use Rattle.codec.proofs.Le.{bytes-part, leNat-part, length-leBytes}
+use Rattle.codec.proofs.Le.{bytes-append, bytes-part, leNat-part, length-leBytes}
 use Rattle.wire.specs.Fields.{kindOf, viewOf, countOf, blockCertificateLength, timeoutLength, timeoutsHead, slots}
 use Rattle.wire.specs.Content.{Certificate, byBlock, byTimeouts, certificateOf, certificate, timeoutOf}
 use Rattle.wire.specs.Encode.{headerBytes, blockCertificateBytes, timeoutsBytes, encode, certificateBytes}
 use Rattle.wire.specs.Fit.{IsName, IsU16, IsU64, All, CertificateFits, Fits}
 use Rattle.wire.proofs.Lengths.{length-blockCertificate, length-timeouts}
-use Rattle.wire.proofs.Rows.{bytes-append, bytes-leBytes, Field, num, FieldFits, Reads, written, reads-written, bytes-written}
+use Rattle.wire.proofs.Rows.{bytes-leBytes, Field, num, FieldFits, Reads, written, reads-written, bytes-written}
 use Rattle.wire.proofs.Tables.{stands-encode, bytes-encode}
 use Rattle.certificate.specs.Safe.{safeCertificate}
 use Rattle.certificate.proofs.Timeouts.{count-timeouts}
