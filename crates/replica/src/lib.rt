@@ -1,7 +1,8 @@
-// The replica: open, record, timer and propose on lent counters, memory, store and output; and the call of 02, 2.3, over settings and a record, which has no replica.
+// The replica: open, record, timer and propose on lent counters, memory, store and output; and two calls that have no replica: that of 02, 2.3, over settings and a record,
+// and the name of a block (02, 2.5).
 // Promises: each call, on any content and length of what is lent and with any input, replies and leaves what `openingCall`, `recordCall`, `timerCall` and
-// `proposeCall` of `protocol` say, with the leader by the list that was opened with, of which demand 3 speaks; `hydrangea_decisive` answers what `decisiveCall` of `decisive` says.
-// No public function has a `requires`. Rests on `judge`, `perform`, `release` and `decisive`; the calls have no branch.
+// `proposeCall` of `protocol` say, with the leader by the list that was opened with, of which demand 3 speaks; `hydrangea_decisive` answers what `decisiveCall` of `decisive` says, and `hydrangea_name` what `nameCall` of `digest` says.
+// No public function has a `requires`. Rests on `judge`, `perform`, `release`, `decisive` and `digest`; the calls have no branch.
 // They are exported by their own names, hence the prefix: a library that exports `open` would take the place of the C library's.
 use act::Draft;
 use blocks::Block;
@@ -12,6 +13,7 @@ use counters::Counters;
 use counters::opened;
 use decisive::Decisive;
 use decisive::whose;
+use digest::Named;
 use event::host::open_memory;
 use perform::Done;
 use release::release_all;
@@ -31,6 +33,7 @@ ghost use Rattle.act.specs.Draft.{workOf, left, leftBy};
 ghost use Rattle.blocks.specs.declared.Block.{Block};
 ghost use Rattle.decisive.specs.Decisive.{decisiveCall};
 ghost use Rattle.decisive.specs.Reply.{replyOf as decisiveReply};
+ghost use Rattle.digest.specs.Name.{nameCall, replyOf as nameReply};
 ghost use Rattle.replica.specs.Openings.{openedOutcome, admitted};
 ghost use Rattle.replica.specs.Reply.{Concludes, replyOf, lentTo, replied, repliedBy};
 
@@ -235,4 +238,13 @@ pub extern "C" fn hydrangea_decisive(f: u64, c: u64, k: u64, n: u64, rec: &[u8])
     ensures { λ r. ⌜ r ≡ decisiveReply (decisiveCall f c k n (now (rec .entry))) ⌝ }
 {
     whose(f, c, k, n, rec)
+}
+
+// The name of a block: its parent, its height, and contents of any bytes. It stands here for the same reason.
+#[no_mangle]
+pub extern "C" fn hydrangea_name(parent: Name, height: u64, contents: &[u8]) -> Named
+    ensures { λ r. ⌜ r ≡ nameReply (nameCall (parent .bytes) height (now (contents .entry))) ⌝ }
+{
+    let bytes = parent.bytes;
+    digest::name(bytes, height, contents)
 }
