@@ -50,7 +50,8 @@ impl Block {
     pub const GENESIS: Block = Block { name: GENESIS, parent: GENESIS, height: Height(0) };
 }
 
-/// 01's refusal numbers, by place, in the order in which they are judged.
+/// Refusal numbers: 1 to 15 are 01's, by place, in the order in which they are judged; 16 is 02's, of the call that names a
+/// block, and no call on a replica gives it.
 #[derive(Clone, Copy, Debug, PartialEq, Eq, PartialOrd, Ord, Hash)]
 #[repr(u16)]
 pub enum Refusal {
@@ -84,6 +85,8 @@ pub enum Refusal {
     StoreFull = 14,
     /// turn: propose out of turn
     Turn = 15,
+    /// name: contents over 4,096 bytes
+    ContentsTooLong = 16,
 }
 
 impl Refusal {
