@@ -34,7 +34,7 @@ typedef struct parcel {
 static replica cluster[REPLICAS];
 static parcel *first;
 static parcel **last = &first;
-static const hydrangea_name block = {{7}};
+static const hydrangea_block_name block = {{7}};
 /* Replica 0 leads every other view. */
 static const uint8_t leaders[] = {0, 1, 0, 2, 0, 3, 0, 4, 0, 5};
 

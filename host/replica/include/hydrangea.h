@@ -1,6 +1,6 @@
 /*
- * One replica of the voting core as a step machine over bytes: the calls of the proved library. One more call,
- * hydrangea_decisive, touches no replica.
+ * One replica of the voting core as a step machine over bytes: the calls of the proved library. Two more calls,
+ * hydrangea_decisive and hydrangea_name, touch no replica.
  *
  * The host lends every region for the time of a call; the library keeps no pointer, allocates nothing and has no
  * state of its own. Regions must not overlap. A slice crosses as a pointer and a length: in bytes, for the store in
@@ -16,7 +16,7 @@
  * - each number is opened once, all honest replicas of a cluster with the same settings and the same leader list;
  * - a record is handed in only after its signatures were checked, those of its inner timeouts and of each
  *   certificate's signers too;
- * - a name has one parent and one height: it is a hash over both;
+ * - a name has one parent and one height: it is a hash over both, such as hydrangea_name makes;
  * - counters, memory and store are saved before any output byte of the call is sent, and a replica resumes only from
  *   what its last finished call left;
  * - of the output, kind 6 goes to the leader of the next view by the list (for one of view w, of view w + 1), kind 9
@@ -45,28 +45,31 @@ extern "C" {
 /* The most entries of a leader list. */
 #define HYDRANGEA_LEADERS 64
 
+/* The most bytes of a block's contents. */
+#define HYDRANGEA_CONTENTS 4096
+
 /* A block's name. All zero is genesis. */
-typedef struct hydrangea_name {
+typedef struct hydrangea_block_name {
     uint8_t bytes[32];
-} hydrangea_name;
+} hydrangea_block_name;
 
 /* A block without its contents. */
 typedef struct hydrangea_block {
-    hydrangea_name name;
-    hydrangea_name parent;
+    hydrangea_block_name name;
+    hydrangea_block_name parent;
     uint64_t height;
 } hydrangea_block;
 
 /* A vote. View 0 is none. */
 typedef struct hydrangea_vote {
     uint64_t view;
-    hydrangea_name name;
+    hydrangea_block_name name;
 } hydrangea_vote;
 
 /* A certificate. Bit i of signers stands for replica i. */
 typedef struct hydrangea_signed {
     uint64_t view;
-    hydrangea_name name;
+    hydrangea_block_name name;
     uint64_t signers;
 } hydrangea_signed;
 
@@ -92,6 +95,12 @@ typedef struct hydrangea_decisive_reply {
     bool found;
     uint64_t sender;
 } hydrangea_decisive_reply;
+
+/* 0 or refusal 16, and a block's name; refused, it is all zero. */
+typedef struct hydrangea_named {
+    uint64_t refusal;
+    hydrangea_block_name name;
+} hydrangea_named;
 
 /*
  * Opens the replica `own` of a cluster of n = 3f + 2c + k + 1 in what is lent, whatever stood there. Any f, c and k are
@@ -122,7 +131,7 @@ hydrangea_reply hydrangea_timer(hydrangea_counters *counters, uint8_t *memory, s
  */
 hydrangea_reply hydrangea_propose(hydrangea_counters *counters, uint8_t *memory, size_t memory_length,
                                   hydrangea_block *store, size_t store_length, uint8_t *output, size_t output_length,
-                                  hydrangea_name name);
+                                  hydrangea_block_name name);
 
 /*
  * Whose timeout decided it: of a good timeout certificate (kind 6) the lowest sender whose timeout, taken out, leaves at
@@ -136,6 +145,14 @@ hydrangea_decisive_reply hydrangea_decisive(uint64_t f, uint64_t c, uint64_t k, 
                                             size_t record_length);
 
 /*
+ * The name of a block: SHA-256 (FIPS 180-4) of its parent's name, its height as eight bytes, the lowest first, and its
+ * contents, 0 to HYDRANGEA_CONTENTS bytes. The height is any number, and nothing is written. Refusal 16 (the contents are
+ * longer). No call on a replica asks how a name was made.
+ */
+hydrangea_named hydrangea_name(hydrangea_block_name parent, uint64_t height, const uint8_t *contents,
+                               size_t contents_length);
+
+/*
  * The library was built for these sizes: no struct has a gap, but for the seven bytes behind `found`, which mean nothing.
  * In C99 a wrong one is an array of negative length.
  */
@@ -147,13 +164,14 @@ hydrangea_decisive_reply hydrangea_decisive(uint64_t f, uint64_t c, uint64_t k, 
 #define HYDRANGEA_SIZE(type, size) typedef char type##_has_its_size[sizeof(type) == (size) ? 1 : -1]
 #endif
 
-HYDRANGEA_SIZE(hydrangea_name, 32);
+HYDRANGEA_SIZE(hydrangea_block_name, 32);
 HYDRANGEA_SIZE(hydrangea_block, 72);
 HYDRANGEA_SIZE(hydrangea_vote, 40);
 HYDRANGEA_SIZE(hydrangea_signed, 48);
 HYDRANGEA_SIZE(hydrangea_counters, 224);
 HYDRANGEA_SIZE(hydrangea_reply, 16);
 HYDRANGEA_SIZE(hydrangea_decisive_reply, 24);
+HYDRANGEA_SIZE(hydrangea_named, 40);
 
 #undef HYDRANGEA_SIZE
 

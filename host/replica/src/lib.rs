@@ -3,8 +3,8 @@
 //! The calls are those of the library that `rt staticlib replica` builds from `crates/replica`; `build.rs` has it built
 //! where it is missing or older than its sources. Each call is proved to do what `docs/INTERFACE.md` and the definitions
 //! behind it say, on any input and any content of the regions. This crate only lends the regions and reads what comes
-//! back; [`raw`] has the calls as they are. [`decisive_timeout`] is for those who look at a timeout certificate afterwards, and
-//! touches no replica.
+//! back; [`raw`] has the calls as they are. Two touch no replica: [`block_name`] makes a block's name from its contents, and
+//! [`decisive_timeout`] is for those who look at a timeout certificate afterwards.
 //!
 //! What the proof of one chain asks of a host stands in `docs/INTERFACE.md`: all replicas of a cluster are opened with the same
 //! settings and the same leader list, signatures are checked before a record comes in, the state is saved before any output
@@ -45,6 +45,7 @@
 //! ```
 
 mod decisive;
+mod name;
 mod record;
 mod refusal;
 mod replica;
@@ -53,6 +54,7 @@ mod types;
 pub mod raw;
 
 pub use decisive::decisive_timeout;
+pub use name::block_name;
 pub use record::{Content, Progress, Proposal, Receiver, Record, Release, Timeout, TimeoutCertificate};
 pub use refusal::Refusal;
 pub use replica::{Accepted, Output, Replica};

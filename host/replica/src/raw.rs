@@ -1,4 +1,4 @@
-//! The library's calls on lent regions of any length and any content, and the one that touches no replica. No call has a
+//! The library's calls on lent regions of any length and any content, and the two that touch no replica. No call has a
 //! precondition: what is too short or breaks a rule gets refusal 2, and a refused call leaves every byte.
 
 use crate::types::{Block, Counters, Name, Settings};
@@ -9,6 +9,8 @@ pub const STORE: usize = 128;
 pub const OUTPUT: usize = 32_768;
 /// The most entries of a leader list.
 pub const LEADERS: usize = 64;
+/// The most bytes of a block's contents.
+pub const CONTENTS: usize = 4_096;
 
 /// What a call answers: refusal 0 is acceptance with the number of bytes written.
 #[derive(Clone, Copy, Debug, PartialEq, Eq)]
@@ -27,6 +29,14 @@ pub struct Decisive {
     pub sender: u64,
 }
 
+/// What [`name`] answers: refusal 0 comes with the name. Where the contents are refused, the name is all zero.
+#[derive(Clone, Copy, Debug, PartialEq, Eq)]
+#[repr(C)]
+pub struct Named {
+    pub refusal: u64,
+    pub name: Name,
+}
+
 /// What a host lends for a call.
 pub struct Lent<'a> {
     pub counters: &'a mut Counters,
@@ -35,8 +45,8 @@ pub struct Lent<'a> {
     pub output: &'a mut [u8],
 }
 
-// A slice crosses as a pointer and a length; a reply comes back in two registers, a decisive timeout through memory, and a
-// name goes in on the stack.
+// A slice crosses as a pointer and a length; a reply comes back in two registers, a decisive timeout and a block's name
+// through memory, and a name goes in on the stack.
 extern "C" {
     fn hydrangea_open(
         counters: *mut Counters,
@@ -88,6 +98,8 @@ extern "C" {
     ) -> Reply;
 
     fn hydrangea_decisive(f: u64, c: u64, k: u64, n: u64, record: *const u8, record_length: usize) -> Decisive;
+
+    fn hydrangea_name(parent: Name, height: u64, contents: *const u8, contents_length: usize) -> Named;
 }
 
 /// Opens a replica in what is lent, with a leader list of any bytes. The store's entries are left as they are.
@@ -145,6 +157,12 @@ pub fn decisive(settings: Settings, record: &[u8]) -> Decisive {
     unsafe { hydrangea_decisive(f, c, k, n, record.as_ptr(), record.len()) }
 }
 
+/// The name of a block with this parent, any height, and contents of any bytes.
+pub fn name(parent: Name, height: u64, contents: &[u8]) -> Named {
+    // SAFETY: the pointer is valid for its length, and the call reads nothing else and writes nothing.
+    unsafe { hydrangea_name(parent, height, contents.as_ptr(), contents.len()) }
+}
+
 /// The counters as the bytes that they are.
 pub fn counters_bytes(counters: &Counters) -> &[u8] {
     as_bytes(std::slice::from_ref(counters))
@@ -170,7 +188,8 @@ trait Plain {}
 impl Plain for Counters {}
 impl Plain for Block {}
 
-const _: () = assert!(size_of::<Counters>() == 224 && size_of::<Block>() == 72 && size_of::<Decisive>() == 24);
+const _: () = assert!(size_of::<Counters>() == 224 && size_of::<Block>() == 72);
+const _: () = assert!(size_of::<Decisive>() == 24 && size_of::<Named>() == 40);
 
 fn as_bytes<T: Plain>(items: &[T]) -> &[u8] {
     // SAFETY: a type that is plain has no byte that isn't set, and bytes need no alignment.

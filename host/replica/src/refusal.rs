@@ -3,7 +3,8 @@
 use std::error::Error;
 use std::fmt;
 
-/// 01's refusals, by place, in the order in which they are judged. A refused call changes nothing.
+/// The refusals. 1 to 15 are 01's, by place, in the order in which they are judged; 16 is 02's, and
+/// [`block_name`](crate::block_name) alone gives it. A refused call changes nothing.
 #[derive(Clone, Copy, Debug, PartialEq, Eq, PartialOrd, Ord, Hash)]
 #[repr(u64)]
 pub enum Refusal {
@@ -22,11 +23,12 @@ pub enum Refusal {
     ParentWrong = 13,
     StoreFull = 14,
     Turn = 15,
+    ContentsTooLong = 16,
 }
 
 impl Refusal {
     /// All of them, number 1 first.
-    pub const ALL: [Refusal; 15] = [
+    pub const ALL: [Refusal; 16] = [
         Refusal::Settings,
         Refusal::Regions,
         Refusal::Length,
@@ -42,22 +44,24 @@ impl Refusal {
         Refusal::ParentWrong,
         Refusal::StoreFull,
         Refusal::Turn,
+        Refusal::ContentsTooLong,
     ];
 
-    /// The refusal of this number; none for 0, which is acceptance, and from 16 on.
+    /// The refusal of this number; none for 0, which is acceptance, and from 17 on.
     ///
     /// ```
     /// use replica::Refusal;
     ///
     /// assert_eq!(Refusal::of(10), Some(Refusal::Repeated));
-    /// assert_eq!(Refusal::of(0), None);
+    /// assert_eq!((Refusal::of(0), Refusal::of(17)), (None, None));
     /// assert!(Refusal::ALL.into_iter().all(|refusal| Refusal::of(refusal.number()) == Some(refusal)));
     /// ```
     pub fn of(number: u64) -> Option<Refusal> {
         Refusal::ALL.into_iter().find(|refusal| refusal.number() == number)
     }
 
-    /// Acceptance, or the refusal of this number. By the library's proof no number above 15 comes back; one would read as 2.
+    /// Acceptance, or the refusal of this number. By the library's proof no number above 16 comes back, and 16 only from the
+    /// call that names a block; a higher one would read as 2.
     pub(crate) fn judge(number: u64) -> Result<(), Refusal> {
         match number {
             0 => Ok(()),
@@ -65,12 +69,12 @@ impl Refusal {
         }
     }
 
-    /// 01's number, 1 to 15.
+    /// 01's number, 1 to 15, or 02's, 16.
     pub fn number(self) -> u64 {
         self as u64
     }
 
-    /// 01's condition in short.
+    /// 01's condition in short, or 02's.
     pub fn meaning(self) -> &'static str {
         match self {
             Refusal::Settings => {
@@ -93,6 +97,7 @@ impl Refusal {
             }
             Refusal::StoreFull => "the block is new and the store is full",
             Refusal::Turn => "it isn't this replica's turn to propose",
+            Refusal::ContentsTooLong => "the contents are longer than 4,096 bytes",
         }
     }
 

@@ -104,7 +104,7 @@ impl Replica {
     }
 
     /// Proposes a block of this name in the current view, on the safe block of [`Replica::entry`]. A name has one parent and
-    /// one height: it is a hash over both, or the host sees to it.
+    /// one height: it is a hash over both, such as [`block_name`](crate::block_name) makes, or the host sees to it.
     ///
     /// ```
     /// # use replica::{Content, Name, Replica, Settings};

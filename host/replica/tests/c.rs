@@ -1,13 +1,17 @@
 //! The library from C: the examples are compiled, linked and run, and the header is read as C99, C11 and C++.
 
+#[path = "../../oracle/tests/common/sha256sum.rs"]
+mod sha256sum;
+
 use std::fs;
 use std::io::Write;
 use std::mem::offset_of;
 use std::path::{Path, PathBuf};
 use std::process::{Command, Output, Stdio};
 
-use oracle::wire;
+use oracle::{block_name, wire, Height, GENESIS};
 use replica::{raw, Block, Certificate, Counters, Vote};
+use sha256sum::{hex, sha256sum};
 
 const STRICT: [&str; 4] = ["-Wall", "-Wextra", "-Werror", "-O2"];
 const OPEN: &str = "0 0 10\n";
@@ -61,11 +65,30 @@ fn all_released() -> String {
     (0..6).map(|own| format!("{own}: released 1, height 1, view 2\n")).collect()
 }
 
+/// The lines of `name.c` for blocks with these contents, each on the one before, as the oracle and `sha256sum` name them.
+fn names(contents: &[&[u8]]) -> String {
+    let mut parent = GENESIS;
+    let mut lines = String::new();
+    for (height, contents) in (1u64..).zip(contents) {
+        let message = [&parent[..], &height.to_le_bytes(), contents].concat();
+        parent = block_name(parent, Height(height), contents).expect("a name");
+        assert_eq!(sha256sum(&[message]), [hex(&parent)]);
+        lines += &format!("{height} {}\n", hex(&parent));
+    }
+    lines
+}
+
+/// Of the chain that `name.c` makes.
+fn made_names() -> String {
+    names(&[b"title 7", b"", &[b'x'; 4_096]]) + "4 refused by 16: 4097 bytes, and at most 4096 are taken\n"
+}
+
 #[test]
 fn the_examples_run() {
     assert_eq!(run("open", "", &["-std=c11"]), OPEN);
     assert_eq!(run("records", "", &["-std=c11"]), all_released());
     assert_eq!(run("decisive", "", &["-std=c11"]), DECISIVE);
+    assert_eq!(run("name", "", &["-std=c11"]), made_names());
 }
 
 /// Regions of exactly their lengths, so that the sanitizer sees an overrun by the C code; the library's own code isn't
@@ -77,6 +100,7 @@ fn the_examples_run_sanitized() {
     assert_eq!(run("open", "-sanitized", &flags), OPEN);
     assert_eq!(run("records", "-sanitized", &flags), all_released());
     assert_eq!(run("decisive", "-sanitized", &flags), DECISIVE);
+    assert_eq!(run("name", "-sanitized", &flags), made_names());
 }
 
 /// The exit code and the words of `decisive.c` in the cluster of six for what it reads.
@@ -111,6 +135,24 @@ fn the_tool_reads_a_certificate() {
     assert_eq!(answer(32), refused(5, "padding, a high vote, a signer set or an inner timeout isn't as it must be"));
     assert_eq!(answer(33), refused(3, "a length is wrong"));
     assert_eq!(decided(&program, b""), refused(3, "a length is wrong"));
+}
+
+/// The exit code of `name.c` with these words, and its lines.
+fn named(program: &Path, words: &[&str]) -> (Option<i32>, String) {
+    let ended = output(Command::new(program).args(words));
+    (ended.status.code(), String::from_utf8(ended.stdout).expect("text"))
+}
+
+/// The contents as words; it stops where they are too long.
+#[test]
+fn the_tool_names_the_blocks_of_a_chain() {
+    let program = build("name", "-words", &["-std=c11"]);
+    let (longest, longer) = ("a".repeat(4_096), "a".repeat(4_097));
+    let chain = names(&[b"title 7 issued", b"", b"title 7 passed on", longest.as_bytes()]);
+    let words = ["title 7 issued", "", "title 7 passed on", &longest];
+    assert_eq!(named(&program, &words), (Some(0), chain));
+    let refused = names(&[b"one"]) + "2 refused by 16: 4097 bytes, and at most 4096 are taken\n";
+    assert_eq!(named(&program, &["one", &longer, "three"]), (Some(1), refused));
 }
 
 /// The sanitizer is there, and it stops a program that writes behind a region.
@@ -161,6 +203,7 @@ fn the_header_has_the_layout() {
         ("HYDRANGEA_STORE", raw::STORE),
         ("HYDRANGEA_OUTPUT", raw::OUTPUT),
         ("HYDRANGEA_LEADERS", raw::LEADERS),
+        ("HYDRANGEA_CONTENTS", raw::CONTENTS),
         ("offsetof(hydrangea_block, name)", offset_of!(Block, name)),
         ("offsetof(hydrangea_block, parent)", offset_of!(Block, parent)),
         ("offsetof(hydrangea_block, height)", offset_of!(Block, height)),
@@ -180,6 +223,8 @@ fn the_header_has_the_layout() {
         ("offsetof(hydrangea_decisive_reply, refusal)", offset_of!(raw::Decisive, refusal)),
         ("offsetof(hydrangea_decisive_reply, found)", offset_of!(raw::Decisive, found)),
         ("offsetof(hydrangea_decisive_reply, sender)", offset_of!(raw::Decisive, sender)),
+        ("offsetof(hydrangea_named, refusal)", offset_of!(raw::Named, refusal)),
+        ("offsetof(hydrangea_named, name)", offset_of!(raw::Named, name)),
     ];
     let asserted = facts.map(|(what, number)| format!("_Static_assert({what} == {number}, \"{what}\");\n"));
     let source = Path::new(env!("CARGO_TARGET_TMPDIR")).join("layout.c");
