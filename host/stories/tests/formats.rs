@@ -7,7 +7,7 @@ use std::collections::BTreeSet;
 use std::io::Write;
 use std::time::Duration;
 
-use common::{answers, printed, printed_by_portions, printed_from_file, Running};
+use common::{answers, RUN};
 use oracle::run::{cut, Options};
 use oracle::wire::{self, kind, HEADER, LONGEST, PROPOSE, TIMER};
 use oracle::{Block, Certificate, Height, Name, Timeout, View, Vote, GENESIS};
@@ -39,14 +39,14 @@ fn assert_same(printed: &str, expected: &str, about: &str) {
 /// Both programs on an input. What they print is given back.
 fn compare(input: &[u8], about: &str) -> String {
     let expected = expected(input);
-    assert_same(&printed(input), &expected, about);
+    assert_same(&RUN.printed(input), &expected, about);
     expected
 }
 
 /// The same with a file, so that each read fills the program's buffer.
 fn compare_from_file(input: &[u8], about: &str) -> String {
     let expected = expected(input);
-    assert_same(&printed_from_file(input), &expected, about);
+    assert_same(&RUN.printed_from_file(input), &expected, about);
     expected
 }
 
@@ -385,15 +385,15 @@ fn the_lines_do_not_depend_on_the_portions() {
     let mut random = Random::new(1);
     for (name, input) in streams_to_arrive() {
         let expected = expected(&input);
-        assert_same(&printed(&input), &expected, &format!("{name} at once"));
-        assert_same(&printed_from_file(&input), &expected, &format!("{name} as a file"));
+        assert_same(&RUN.printed(&input), &expected, &format!("{name} at once"));
+        assert_same(&RUN.printed_from_file(&input), &expected, &format!("{name} as a file"));
         for round in 0..6 {
             let portions = portions(&input, &mut random);
-            assert_same(&printed_by_portions(&portions, pause), &expected, &format!("{name} in portions, {round}"));
+            assert_same(&RUN.printed_by_portions(&portions, pause), &expected, &format!("{name} in portions, {round}"));
         }
         if input.len() < 1000 {
             let single: Vec<&[u8]> = input.chunks(1).collect();
-            assert_same(&printed_by_portions(&single, pause), &expected, &format!("{name} byte by byte"));
+            assert_same(&RUN.printed_by_portions(&single, pause), &expected, &format!("{name} byte by byte"));
         }
     }
 }
@@ -405,7 +405,7 @@ fn each_line_comes_before_the_next_record() {
         let expected = expected(&input);
         for ahead in [0, 1, 7, 8, 15] {
             let about = format!("{name}, {ahead} bytes ahead");
-            let (mut running, mut stdin) = Running::with_open_input();
+            let (mut running, mut stdin) = RUN.with_open_input();
             let (mut end, mut written) = (0, 0);
             let mut lines = expected.split_inclusive('\n');
             // The opening's is the header line.
@@ -442,7 +442,7 @@ fn it_stops_while_its_input_is_open() {
     for (about, input) in rows {
         let expected = expected(&input);
         assert!(expected == REFUSED || answers(&expected) == [0, 3], "{about}: {expected}");
-        let (running, mut stdin) = Running::with_open_input();
+        let (running, mut stdin) = RUN.with_open_input();
         let _ = stdin.write_all(&input); // it may stop before
         assert_same(&running.rest(), &expected, &about);
         drop(stdin);

@@ -11,7 +11,7 @@ fn the_proved_program_prints_the_stored_lines() {
     for run in stories::runs() {
         let input = fs::read(folder.join(format!("{}.bin", run.name))).expect("a stored input");
         let expected = fs::read_to_string(folder.join(format!("{}.txt", run.name))).expect("a stored listing");
-        assert_eq!(common::printed(&input), expected, "{}", run.name);
+        assert_eq!(common::RUN.printed(&input), expected, "{}", run.name);
     }
 }
 
