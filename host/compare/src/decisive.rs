@@ -1,19 +1,17 @@
 //! The call that names the decisive timeout, on library and oracle.
 
 use std::fmt;
-use std::hint::black_box;
 
 use oracle::Refusal;
 use replica::raw::{self, Decisive};
 use replica::Settings;
 use streams::{DecisiveAnswer, DecisiveCall, DecisiveCoverage, DecisiveStream};
 
+use crate::guarded::guarded;
 use crate::step::{bytes, hex, numbers};
 
 /// How many calls follow from a seed: all in one cluster.
 const CALLS: u64 = 20;
-/// Bytes on either side of the record, which so begins at an odd address.
-const GUARD: [u8; 61] = [0xC3; 61];
 
 /// A call that the library didn't answer as the oracle.
 #[derive(Clone, Debug, PartialEq, Eq)]
@@ -73,11 +71,8 @@ fn read(line: &str) -> Option<DecisiveCall> {
 /// The library's answer against this one; the record's bytes and those beside it must stay.
 fn compare(call: &DecisiveCall, answer: DecisiveAnswer) -> Result<(), Box<DecisiveMismatch>> {
     let [f, c, k, n] = call.settings;
-    let before = [&GUARD, &call.record[..], &GUARD].concat();
-    let lent = before.clone();
-    let library = raw::decisive(Settings { f, c, k, n }, &lent[GUARD.len()..lent.len() - GUARD.len()]);
+    let (library, changed) = guarded(&call.record, |record| raw::decisive(Settings { f, c, k, n }, record));
     let oracle = written(answer);
-    let changed = black_box(lent) != before; // else what is lent for reading counts as unchanged
     if library == oracle && !changed {
         return Ok(());
     }

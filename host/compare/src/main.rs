@@ -2,14 +2,15 @@
 
 use std::process::ExitCode;
 
-use compare::{compare_decisive, compare_part, replay, replay_decisive, Kind};
+use compare::{compare_decisive, compare_names, compare_part, replay, replay_decisive, replay_name, Kind};
 use oracle::{help, Faults};
-use streams::DecisiveCall;
+use streams::{DecisiveCall, NameCall};
 
 const USAGE: &str = "\
 usage: compare CALLS [FIRST_SEED]
        compare replay FILE
-  CALLS       so many calls from openings are compared, as many from garbage, and a tenth as many that name a decisive timeout
+  CALLS       so many calls from openings are compared, as many from garbage, a tenth as many that name a decisive timeout,
+              and a tenth as many that name a block
   FIRST_SEED  runs follow from seeds from this one on, 0 if not given
   FILE        has the lines that a mismatch printed; they are played again
   --help      prints this";
@@ -44,10 +45,13 @@ fn perform(arguments: &[&str]) -> Result<(), String> {
     }
 }
 
-/// A run, or one call that names a decisive timeout.
+/// A run, or one call that names a decisive timeout or a block.
 fn replay_any(text: &str) -> Result<Option<String>, String> {
     if text.lines().any(|line| line.starts_with("decisive ")) {
         return Ok(replay_decisive(text, DecisiveCall::make)?.map(|mismatch| mismatch.to_string()));
+    }
+    if text.lines().any(|line| line.starts_with("name ")) {
+        return Ok(replay_name(text, NameCall::make)?.map(|mismatch| mismatch.to_string()));
     }
     Ok(replay(text, Faults::NONE)?.map(|mismatch| mismatch.to_string()))
 }
@@ -60,6 +64,9 @@ fn compare_all(calls: u64, first: u64) -> Result<(), String> {
     }
     println!("Decisive timeouts, seeds from {first} on");
     let coverage = compare_decisive(first, calls / 10, DecisiveCall::make).map_err(|mismatch| mismatch.to_string())?;
+    println!("{coverage}\n");
+    println!("Names, seeds from {first} on");
+    let coverage = compare_names(first, calls / 10, NameCall::make).map_err(|mismatch| mismatch.to_string())?;
     println!("{coverage}");
     Ok(())
 }

@@ -4,6 +4,7 @@
 #![cfg(all(target_os = "linux", target_arch = "x86_64"))]
 
 use std::ffi::{c_int, c_long, c_void};
+use std::hint::black_box;
 use std::marker::PhantomData;
 use std::os::unix::process::ExitStatusExt;
 use std::process::Command;
@@ -11,7 +12,7 @@ use std::process::Command;
 use compare::{AnyCall, Kind, Library, Run, Step};
 use replica::raw::{self, Lent, Reply};
 use replica::{Block, Counters, Name, Settings};
-use streams::{Call, DecisiveStream};
+use streams::{Call, DecisiveStream, NameStream};
 
 extern "C" {
     fn mmap(at: *mut c_void, length: usize, allow: c_int, flags: c_int, file: c_int, offset: c_long) -> *mut c_void;
@@ -157,6 +158,21 @@ fn decisive_stays_inside_the_record() {
         let answer = raw::decisive(settings, &call.record);
         for behind in [true, false] {
             assert_eq!(raw::decisive(settings, fenced.hold(&call.record, behind)), answer, "{call:?}");
+        }
+    }
+}
+
+/// The same of the call that names a block, which is lent its contents alone and leaves them.
+#[test]
+fn name_stays_inside_the_contents() {
+    let mut fenced = Fenced::new(2 * raw::CONTENTS);
+    for call in NameStream::new(0) {
+        let name = |contents: &[u8]| raw::name(Name { bytes: call.parent }, call.height.0, contents);
+        let answer = name(&call.contents);
+        for behind in [true, false] {
+            let contents = fenced.hold(&call.contents, behind);
+            assert_eq!(name(contents), answer, "{call:?}");
+            assert_eq!(black_box(contents), call.contents); // else what is lent for reading counts as unchanged
         }
     }
 }

@@ -8,12 +8,14 @@ use compare::{AnyCall, Expected, Kind, Library, Run, Step};
 use oracle::lent::Rooms;
 use oracle::{wire, Block, Certificate, Faults, Height, Settings, Timeout, View, Vote};
 use replica::raw;
-use streams::{Call, DecisiveCall, DecisiveStream};
+use streams::{Call, DecisiveCall, DecisiveStream, NameCall, NameStream};
 
 /// What a call may take. Measured: 372,920 bytes where rule D passes over 263 decided names that aren't held.
 const BOUND: usize = 384 * 1024;
 /// What the call that names the decisive timeout may take. Measured: 4,296 bytes.
 const BOUND_OF_DECISIVE: usize = 8 * 1024;
+/// What the call that names a block may take. Measured: 1,264 bytes.
+const BOUND_OF_NAME: usize = 2 * 1024;
 /// What is painted, and the thread's stack.
 const PAINTED: usize = 512 * 1024;
 const STACK: usize = 1024 * 1024;
@@ -344,4 +346,28 @@ fn stack_of_decisive() {
     let (seeded, full) = (depth_of_decisive(seeded.collect()), depth_of_decisive(full));
     println!("decisive: {seeded} bytes of stack in seeded calls, {full} with certificates of all of 32 replicas");
     assert!([seeded, full].iter().all(|&depth| depth > 0 && depth <= BOUND_OF_DECISIVE));
+}
+
+/// The deepest of these calls.
+fn depth_of_name(calls: Vec<NameCall>) -> usize {
+    on_a_thread(move || {
+        let depth = |call: &NameCall| {
+            let parent = replica::Name { bytes: call.parent };
+            depth_of(|| {
+                raw::name(parent, call.height.0, &call.contents);
+            })
+        };
+        calls.iter().map(depth).max().expect("at least one call")
+    })
+}
+
+/// Contents of every length that is taken, and with a byte too many.
+#[test]
+fn stack_of_name() {
+    let mut taken: Vec<NameCall> = NameStream::new(0).take(raw::CONTENTS + 2).collect();
+    let longer = taken.split_off(raw::CONTENTS + 1);
+    assert!(taken.iter().all(|call| call.make().is_ok()) && longer.iter().all(|call| call.make().is_err()));
+    let (taken, longer) = (depth_of_name(taken), depth_of_name(longer));
+    println!("name: {taken} bytes of stack with contents that are taken, {longer} with longer ones");
+    assert!([taken, longer].iter().all(|&depth| depth > 0 && depth <= BOUND_OF_NAME));
 }

@@ -1,5 +1,5 @@
 //! Seeded inputs for one replica. A stream looks at the replica's state, so that many calls are accepted and every
-//! refusal, rule and limit comes up. One more kind of stream is for the call that touches no replica.
+//! refusal, rule and limit comes up. Two more kinds of streams are for the calls that touch no replica.
 
 mod call;
 mod coverage;
@@ -9,6 +9,7 @@ mod good;
 mod input;
 mod leaders;
 mod lent;
+mod name;
 mod opening;
 mod random;
 mod spoil;
@@ -21,6 +22,7 @@ pub use garbage::garbage;
 pub use good::of_any_count;
 pub use input::{input, play, Played};
 pub use lent::{garbage_rooms, lent_input, scatter, LentCoverage};
+pub use name::{NameAnswer, NameCall, NameStream};
 pub use opening::Opening;
 pub use random::Random;
 pub use stream::Stream;
