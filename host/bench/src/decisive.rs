@@ -129,7 +129,7 @@ pub fn measure(rounds: usize) -> Table {
     let labels = |(case, n): &(Case, u64)| vec![n.to_string(), case.words().to_string()];
     let rows = cases.iter().zip(times).map(|(case, times)| Row { labels: labels(case), times });
     let title = "whose timeout decided: the call on a timeout certificate".to_string();
-    Table { name: "decisive", title, columns: &["n", "asked about"], rows: rows.collect() }
+    Table { name: "decisive", title, columns: &["n", "asked about"], against: "oracle", rows: rows.collect() }
 }
 
 fn questions(case: Case, n: u64) -> Vec<Question> {

@@ -26,7 +26,7 @@ pub fn measure(rounds: usize) -> Table {
         }
     }
     let title = "n 6, blocks held above the tip: a call that releases nothing".to_string();
-    Table { name: "held", title, columns: &["held", "as a", "call"], rows }
+    Table { name: "held", title, columns: &["held", "as a", "call"], against: "oracle", rows }
 }
 
 fn script(shape: &str, held: usize, seed: u64) -> Script {

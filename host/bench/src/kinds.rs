@@ -59,7 +59,8 @@ impl Kinds {
 /// All of them as one table.
 pub fn table(kinds: &[Kinds]) -> Table {
     let rows = kinds.iter().flat_map(Kinds::rows).collect();
-    Table { name: "kinds", title: "every kind of call".to_string(), columns: &["n", "call", "answer"], rows }
+    let title = "every kind of call".to_string();
+    Table { name: "kinds", title, columns: &["n", "call", "answer"], against: "oracle", rows }
 }
 
 fn heading(coverage: &Coverage, rounds: usize) -> String {

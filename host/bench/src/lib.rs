@@ -1,5 +1,5 @@
-//! Time of a call, the proved library beside the oracle, on the same calls in one run. `docs/PERFORMANCE.md` has the
-//! figures.
+//! Time of a call, the proved library beside the oracle, or beside C for names, on the same calls in one run.
+//! `docs/PERFORMANCE.md` has the figures.
 //!
 //! Calls are made up before the clock starts; each side keeps its state and one output buffer that it writes every
 //! call's output to, and that isn't cleared. A round plays all calls, each script on one side and at once on the
@@ -11,6 +11,7 @@ pub mod kinds;
 pub mod life;
 pub mod markdown;
 pub mod measure;
+pub mod names;
 pub mod plot;
 pub mod releases;
 pub mod sides;

@@ -4,7 +4,7 @@ use std::process::ExitCode;
 use std::{fmt, fs, io, path::Path};
 
 use bench::table::Table;
-use bench::{decisive, held, kinds, markdown, plot, releases, size, timeouts};
+use bench::{decisive, held, kinds, markdown, names, plot, releases, size, timeouts};
 use oracle::help;
 
 const USAGE: &str = "\
@@ -22,10 +22,11 @@ sections:
   held      accepted calls while 0 to 120 blocks are held above the tip; n 6
   timeouts  one view change by timeouts; n 6, 13, 32
   decisive  whose timeout decided a timeout certificate; n 6 to 32
-  releases  chains of 1 to 128 blocks released at once, and the longest calls known";
+  releases  chains of 1 to 128 blocks released at once, and the longest calls known
+  names     the name of a block with contents of 0 to 4,096 bytes, beside the same in C";
 
 /// In the document's order.
-const SECTIONS: [&str; 6] = ["kinds", "size", "held", "timeouts", "decisive", "releases"];
+const SECTIONS: [&str; 7] = ["kinds", "size", "held", "timeouts", "decisive", "releases", "names"];
 
 struct Options {
     calls: usize,
@@ -105,7 +106,8 @@ fn measure(section: &str, options: &Options) -> Table {
         "held" => held::measure(options.rounds),
         "timeouts" => timeouts::measure(options.rounds),
         "decisive" => decisive::measure(options.rounds),
-        _ => releases::measure(options.rounds),
+        "releases" => releases::measure(options.rounds),
+        _ => names::measure(options.rounds),
     };
     print(&table, &[&table], options);
     table

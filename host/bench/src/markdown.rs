@@ -12,7 +12,8 @@ pub fn section(table: &Table) -> String {
             ("Every view times out", list(table, &["n", "timeouts taken", "refused as late", "one view change"]))
         }
         "decisive" => ("Whose timeout decided", decisive(table)),
-        _ => ("Releases", list(table, &["n", "released", "the call"])),
+        "releases" => ("Releases", list(table, &["n", "released", "the call"])),
+        _ => ("The name of a block", names(table)),
     };
     format!("## {heading}\n\n{tables}")
 }
@@ -38,6 +39,13 @@ fn decisive(table: &Table) -> String {
     grid("", table.rows.iter().map(cell).collect())
 }
 
+/// Nanoseconds, a line for each length.
+fn names(table: &Table) -> String {
+    let length = |row: &Row| number(row.labels[0].parse().expect("a number"), 0);
+    let rows = table.rows.iter().map(|row| line([length(row), figures(row.times, 0, 2)].into_iter()));
+    head(&["bytes of contents", &format!("beside {}", table.against)]) + &rows.collect::<String>()
+}
+
 /// Nanoseconds by title and column, both in the order in which they come up; nothing where there is no such call.
 fn grid(corner: &str, cells: Vec<(String, String, [f64; 2])>) -> String {
     let (mut titles, mut columns) = (Vec::new(), vec![corner]);
@@ -52,7 +60,7 @@ fn grid(corner: &str, cells: Vec<(String, String, [f64; 2])>) -> String {
     let mut text = head(&columns);
     for title in titles {
         let find = |column: &&str| cells.iter().find(|cell| cell.0 == *title && cell.1 == *column);
-        let found = columns[1..].iter().map(|column| find(column).map_or(String::new(), |cell| figures(cell.2, 0)));
+        let found = columns[1..].iter().map(|column| find(column).map_or(String::new(), |cell| figures(cell.2, 0, 1)));
         text += &line([title.clone()].into_iter().chain(found));
     }
     text
@@ -60,7 +68,7 @@ fn grid(corner: &str, cells: Vec<(String, String, [f64; 2])>) -> String {
 
 /// Microseconds, a line for each row.
 fn list(table: &Table, titles: &[&str]) -> String {
-    let microseconds = |row: &Row| figures(row.times.map(|time| time / 1000.0), 2);
+    let microseconds = |row: &Row| figures(row.times.map(|time| time / 1000.0), 2, 1);
     let rows = table.rows.iter().map(|row| line(row.labels.iter().cloned().chain([microseconds(row)])));
     head(titles) + &rows.collect::<String>()
 }
@@ -74,9 +82,9 @@ fn line(cells: impl Iterator<Item = String>) -> String {
     format!("|{}\n", cells.collect::<String>())
 }
 
-/// Library / oracle (ratio).
-fn figures([library, oracle]: [f64; 2], decimals: usize) -> String {
-    format!("{} / {} ({})", number(library, decimals), number(oracle, decimals), number(library / oracle, 1))
+/// Library / other (ratio), with these decimals of the times and of the ratio.
+fn figures([library, other]: [f64; 2], decimals: usize, of_ratio: usize) -> String {
+    format!("{} / {} ({})", number(library, decimals), number(other, decimals), number(library / other, of_ratio))
 }
 
 /// At most so many decimals: from 10 on at most one, from 100 on none. Thousands are set apart.
@@ -121,10 +129,11 @@ mod tests {
     }
 
     #[test]
-    fn ratios_have_one_decimal_below_a_hundred() {
+    fn ratios_have_their_decimals_below_a_hundred() {
         assert_eq!([1.96, 9.98, 42.31, 155.2].map(|value| number(value, 1)), ["2.0", "10.0", "42.3", "155"]);
-        assert_eq!(figures([1272.4, 567.3], 0), "1,272 / 567 (2.2)");
-        assert_eq!(figures([1274.0, 8.21], 2), "1,274 / 8.21 (155)");
+        assert_eq!(figures([1272.4, 567.3], 0, 1), "1,272 / 567 (2.2)");
+        assert_eq!(figures([1274.0, 8.21], 2, 1), "1,274 / 8.21 (155)");
+        assert_eq!(figures([5830.0, 7120.0], 0, 2), "5,830 / 7,120 (0.82)");
     }
 
     #[test]

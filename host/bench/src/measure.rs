@@ -96,7 +96,7 @@ fn medians(rounds: &[Vec<u32>]) -> impl Iterator<Item = f64> + '_ {
     })
 }
 
-/// Of each case the mean over its inputs of a call that keeps no state, library then oracle. A call says whether its answer
+/// Of each case the mean over its inputs of a call that keeps no state, by the library and then by the other. A call says whether its answer
 /// is the right one. It is made twice and the second is timed: else the side that comes first would fetch the input into
 /// the cache for the other.
 pub fn measure_calls<T>(cases: &[Vec<T>], calls: [fn(&T) -> bool; 2], rounds: usize) -> Vec<[f64; 2]> {

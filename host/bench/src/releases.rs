@@ -78,7 +78,7 @@ pub fn measure(rounds: usize) -> Table {
         Row { labels, times: times.mean(|_| true).expect("one call is timed") }
     });
     let title = "a release: the call that decides".to_string();
-    Table { name: "releases", title, columns: &["n", "released"], rows: rows.collect() }
+    Table { name: "releases", title, columns: &["n", "released"], against: "oracle", rows: rows.collect() }
 }
 
 fn script(settings: (u64, u64, u64), case: &Case, seed: u64) -> Script {

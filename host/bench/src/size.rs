@@ -20,7 +20,7 @@ pub fn measure(rounds: usize) -> Table {
         }
     }
     let title = "a cluster at work, three views of four go well: an accepted call".to_string();
-    Table { name: "size", title, columns: &["n", "call"], rows }
+    Table { name: "size", title, columns: &["n", "call"], against: "oracle", rows }
 }
 
 /// The calls of one run; names follow from the seed.

@@ -2,7 +2,7 @@
 
 use std::fmt;
 
-/// One row: what it is of, and nanoseconds of library and oracle.
+/// One row: what it is of, and nanoseconds of the library and of what it is measured beside.
 pub struct Row {
     pub labels: Vec<String>,
     pub times: [f64; 2],
@@ -14,15 +14,17 @@ pub struct Table {
     pub title: String,
     /// What the labels are.
     pub columns: &'static [&'static str],
+    /// What the library is measured beside.
+    pub against: &'static str,
     pub rows: Vec<Row>,
 }
 
 impl Table {
     pub fn csv(&self) -> String {
-        let mut text = format!("{},library ns,oracle ns,ratio\n", self.columns.join(","));
-        for Row { labels, times: [library, oracle] } in &self.rows {
+        let mut text = format!("{},library ns,{} ns,ratio\n", self.columns.join(","), self.against);
+        for Row { labels, times: [library, other] } in &self.rows {
             let labels: Vec<String> = labels.iter().map(|label| cell(label)).collect();
-            text += &format!("{},{library:.0},{oracle:.0},{:.2}\n", labels.join(","), library / oracle);
+            text += &format!("{},{library:.0},{other:.0},{:.2}\n", labels.join(","), library / other);
         }
         text
     }
@@ -52,10 +54,10 @@ impl fmt::Display for Table {
         writeln!(f, "{}", self.title)?;
         let titles: Vec<String> = self.columns.iter().map(|title| title.to_string()).collect();
         self.write_labels(f, &titles)?;
-        writeln!(f, "{:>12}{:>11}{:>9}", "library ns", "oracle ns", "ratio")?;
-        for Row { labels, times: [library, oracle] } in &self.rows {
+        writeln!(f, "{:>12}{:>11}{:>9}", "library ns", format!("{} ns", self.against), "ratio")?;
+        for Row { labels, times: [library, other] } in &self.rows {
             self.write_labels(f, labels)?;
-            writeln!(f, "{library:>12.0}{oracle:>11.0}{:>9.2}", library / oracle)?;
+            writeln!(f, "{library:>12.0}{other:>11.0}{:>9.2}", library / other)?;
         }
         Ok(())
     }

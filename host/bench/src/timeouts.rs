@@ -14,7 +14,7 @@ pub fn measure(rounds: usize) -> Table {
     let cases = clusters.map(|settings| (0..SEEDS).map(|seed| script(settings, seed)).collect::<Vec<Script>>());
     let rows = cases.iter().zip(Times::measure(&cases, rounds)).map(|(case, times)| row(case[0].opening.n, &times));
     let title = "every view times out: one view change, all timeouts of a view together".to_string();
-    Table { name: "timeouts", title, columns: &["n", "accepted", "refused"], rows: rows.collect() }
+    Table { name: "timeouts", title, columns: &["n", "accepted", "refused"], against: "oracle", rows: rows.collect() }
 }
 
 /// How many timeouts a view change takes, and what they take together.

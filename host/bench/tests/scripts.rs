@@ -3,7 +3,7 @@
 use bench::measure::{Mark, Script, Times};
 use bench::sides::{Library, Oracle, Side};
 use bench::table::{Row, Table};
-use bench::{decisive, held, kinds, markdown, plot, releases, size, timeouts};
+use bench::{decisive, held, kinds, markdown, names, plot, releases, size, timeouts};
 use streams::Kind;
 
 fn assert_alike(script: &Script) {
@@ -26,11 +26,18 @@ fn both_sides_answer_a_cluster_at_work_alike() {
     }
 }
 
+/// Contents that end at every place of a block, or it would panic.
+#[test]
+fn library_and_c_name_alike() {
+    (0..=192).for_each(|length| drop(names::Question::any(length, 1)));
+}
+
 /// One round of each section: the calls fit their states, or it would panic.
 #[test]
 fn sections_are_whole() {
-    let tables = [held::measure(1), timeouts::measure(1), size::measure(1), releases::measure(1), decisive::measure(1)];
-    for (table, rows) in tables.iter().zip([32, 3, 24, 14, 24]) {
+    let [held, timeouts, size] = [held::measure(1), timeouts::measure(1), size::measure(1)];
+    let tables = [held, timeouts, size, releases::measure(1), decisive::measure(1), names::measure(1)];
+    for (table, rows) in tables.iter().zip([32, 3, 24, 14, 24, 4]) {
         assert_eq!(table.rows.len(), rows, "{}", table.name);
         assert!(table.rows.iter().all(|row| row.times.iter().all(|time| *time > 0.0)), "{table}");
         assert_eq!(table.csv().lines().count(), rows + 1);
@@ -55,8 +62,8 @@ fn means_are_of_the_calls_asked_for() {
 fn a_table_as_csv() {
     let row = |label: &str| Row { labels: vec!["6".to_string(), label.to_string()], times: [1500.4, 500.0] };
     let rows = vec![row("Vote"), row("one, two")];
-    let table = Table { name: "size", title: String::new(), columns: &["n", "call"], rows };
-    assert_eq!(table.csv(), "n,call,library ns,oracle ns,ratio\n6,Vote,1500,500,3.00\n6,\"one, two\",1500,500,3.00\n");
+    let table = Table { name: "size", title: String::new(), columns: &["n", "call"], against: "C", rows };
+    assert_eq!(table.csv(), "n,call,library ns,C ns,ratio\n6,Vote,1500,500,3.00\n6,\"one, two\",1500,500,3.00\n");
     assert_eq!(table.series(&["Vote"]), [(6.0, [1500.4, 500.0])]);
 }
 
@@ -74,6 +81,6 @@ fn tables_as_markdown_are_those_of_the_document() {
     let document = &document[first.expect("the first table")..behind.expect("what follows the tables")];
     let kinds = kinds::table(&kinds::measure(6000, 1));
     let [size, held, timeouts] = [size::measure(1), held::measure(1), timeouts::measure(1)];
-    let tables = [kinds, size, held, timeouts, decisive::measure(1), releases::measure(1)];
+    let tables = [kinds, size, held, timeouts, decisive::measure(1), releases::measure(1), names::measure(1)];
     assert_eq!(forms(&tables.each_ref().map(markdown::section).concat()), forms(document));
 }

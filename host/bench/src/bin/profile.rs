@@ -1,6 +1,6 @@
 //! Plays calls on the library for a profiler, random streams or a cluster at work. Calls of the kind and answer asked
 //! for go through the function `profiled`, all others through `others`. Or asks whose timeout decided a timeout
-//! certificate, all in `profiled_question`:
+//! certificate, all in `profiled_question`, or for the names of blocks, in `profiled_name`:
 //!
 //!     valgrind --tool=callgrind --toggle-collect='*profiled*' target/release/profile work 13 Vote accepted
 
@@ -8,6 +8,7 @@ use std::hint::black_box;
 use std::process::ExitCode;
 
 use bench::decisive::{Case, Question};
+use bench::names;
 use bench::sides::{Library, Oracle, Side};
 use bench::size;
 use oracle::help;
@@ -16,14 +17,17 @@ use streams::{play, Call, Coverage, Kind, Opening};
 const USAGE: &str = "\
 usage: profile streams|work N KIND accepted|refused [RUNS]
        profile decisive N CASE [RUNS]
+       profile names LENGTH [RUNS]
 plays calls on the library: in the function `profiled` those of that kind and answer, in `others` all others
   streams, work      random streams, or a cluster at work
   decisive           the call on a timeout certificate, in `profiled_question`
+  names              the name of a block, in `profiled_name`
   N                  the cluster's size: 6, 9, 13, 18, 24 or 32
   KIND               Vote, Commit, BlockCertificate, Timeout, TimeoutCertificate, Proposal, Block, Timer, Propose, or
                      Foreign: a record of no kind that a replica takes
   accepted, refused  the answer
   CASE               Enough, Alike, Different or ByTurns: the timeouts, as `bench --section decisive` has them
+  LENGTH             bytes of the block's contents, 4,096 at most
   RUNS               how many runs, 2 if not given
   --help             prints this";
 
@@ -68,6 +72,7 @@ fn main() -> ExitCode {
     let arguments: Vec<String> = std::env::args().skip(1).collect();
     let found = match arguments.first().map(String::as_str) {
         Some("decisive") => run_decisive(&arguments[1..]),
+        Some("names") => run_names(&arguments[1..]),
         _ => Asked::read(&arguments).map(|asked| asked.run()),
     };
     let Some(found) = found else {
@@ -88,6 +93,14 @@ fn run_decisive(arguments: &[String]) -> Option<usize> {
     let settings = case.cluster(n.parse().ok()?)?;
     let questions = (0..read_runs(rest)?).map(|seed| case.question(settings, seed));
     Some(questions.filter(|question| black_box(profiled_question(question))).count())
+}
+
+/// The same for the names of blocks.
+fn run_names(arguments: &[String]) -> Option<usize> {
+    let [length, rest @ ..] = arguments else { return None };
+    let length = length.parse().ok().filter(|length| *length <= names::LONGEST)?;
+    let questions = (0..read_runs(rest)?).map(|seed| names::Question::any(length, seed));
+    Some(questions.filter(|question| black_box(profiled_name(question))).count())
 }
 
 fn stream((f, c, k): Settings, seed: u64) -> Calls {
@@ -123,6 +136,11 @@ fn profiled(library: &mut Library, call: &Call) -> bool {
 
 #[inline(never)]
 fn profiled_question(question: &Question) -> bool {
+    question.ask_library()
+}
+
+#[inline(never)]
+fn profiled_name(question: &names::Question) -> bool {
     question.ask_library()
 }
 
