@@ -10,8 +10,10 @@ pub mod Written
 pub mod Output
 pub mod Proposals
 pub mod Events
+pub mod Contents
 pub mod OneCall
 pub mod Regions
 pub mod AsBefore
 pub mod Order
 pub mod Whole
+pub mod Making

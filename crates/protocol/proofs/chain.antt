@@ -16,3 +16,4 @@ pub mod OnTimerPropose
 pub mod Call
 pub mod Run
 pub mod Demand3
+pub mod Checked

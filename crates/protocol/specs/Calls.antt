@@ -1,6 +1,6 @@
 -- THE CALLS: opening, record, timer, propose, for every input (01: The box; Refusals). The core gives a refusal, or the replica's next state and the
 -- bytes written; the outcome puts them into the lent regions. Record and propose ask who leads a view: by which rule is an argument of them, `byList` (02, 2.1)
--- in the code. Assumes nothing.
+-- in the code. Both may come with contents (02, 2.5): `recordCallWith` and `proposeCallWith`. Assumes nothing.
 use Prim.Native.Nat.{ℕ}
 use mathlib.Core.List.{List, [], _∷_, _++_}
 use lib.Dec.{ltb}
@@ -20,7 +20,8 @@ use Rattle.memory.specs.Leaders.{Leading}
 use Rattle.counters.specs.declared.Counters.{Counters}
 use Rattle.counters.specs.Counters.{opened}
 use Rattle.protocol.specs.Work.{Work, n}
-use Rattle.protocol.specs.Refusals.{storeLength, regionRules, refusals, timerRules, proposeRules}
+use Rattle.protocol.specs.Refusals.{storeLength, regionRules, refusals, timerRules, nextBlock, proposeRules}
+use Rattle.protocol.specs.Contents.{Contents, tooLongRule, digestRule, recordDigestRule, rightBefore}
 use Rattle.protocol.specs.Events.{onRecord, onTimer, onPropose}
 use Rattle.protocol.specs.Rules.{settle}
 
@@ -51,6 +52,22 @@ module _ (lead : Leading) (r : Replica) (room : ℕ) where
 
   unfoldable pub proposeCore : List ℕ → Answer Work
   proposeCore x = judge (proposeRefusals x) (settle (onPropose x (begin r)))
+
+  -- ---- the same with contents, or with none: 16 "right after 2 (propose: before 15)", 17 "right before 10 (propose: before 14)"; for propose the name is
+  -- checked "with the safe block and its height plus 1". A call that is accepted does what it does without
+  abbrev pub recordRefusalsWith : List ℕ → Contents → List Rule
+  recordRefusalsWith bytes c =
+      let W = begin r in
+      regionRules W room then tooLongRule c then shapeRules (n W) bytes then rightBefore 10 (recordDigestRule W (content bytes) c) (refusals W lead bytes (content bytes))
+
+  unfoldable pub recordCoreWith : List ℕ → Contents → Answer Work
+  recordCoreWith bytes c = judge (recordRefusalsWith bytes c) (settle (onRecord bytes (content bytes) (begin r)))
+
+  abbrev pub proposeRefusalsWith : List ℕ → Contents → List Rule
+  proposeRefusalsWith x c = let W = begin r in regionRules W room then tooLongRule c then rightBefore 14 (digestRule (nextBlock W x) c) (proposeRules W lead x)
+
+  unfoldable pub proposeCoreWith : List ℕ → Contents → Answer Work
+  proposeCoreWith x c = judge (proposeRefusalsWith x c) (settle (onPropose x (begin r)))
 
 module _ (r : Replica) (room : ℕ) where
   abbrev pub timerRefusals : ℕ → List Rule
@@ -99,6 +116,12 @@ timerCall r output v = outcome r output (timerCore r (length output) v)
 
 unfoldable pub proposeCall : Leading → Replica → List ℕ → List ℕ → Outcome
 proposeCall lead r output x = outcome r output (proposeCore lead r (length output) x)
+
+unfoldable pub recordCallWith : Leading → Replica → List ℕ → List ℕ → Contents → Outcome
+recordCallWith lead r output bytes c = outcome r output (recordCoreWith lead r (length output) bytes c)
+
+unfoldable pub proposeCallWith : Leading → Replica → List ℕ → List ℕ → Contents → Outcome
+proposeCallWith lead r output x c = outcome r output (proposeCoreWith lead r (length output) x c)
 
 unfoldable pub openingCall : Replica → ℕ → ℕ → ℕ → ℕ → ℕ → List ℕ → Outcome
 openingCall r f c k n own leaders = outcome r [] (openingCore r f c k n own leaders)

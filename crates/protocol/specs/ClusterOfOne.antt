@@ -12,6 +12,7 @@ use Rattle.settings.specs.Answer.{accepts}
 use Rattle.settings.specs.Opening.{badLeaders}
 use Rattle.codec.specs.Bytes.{IsBytes}
 use Rattle.codec.specs.Names.{zeroName}
+use Rattle.digest.specs.Name.{nameOf, longestContents}
 use Rattle.wire.specs.declared.Timeout.{Timeout}
 use Rattle.wire.specs.Encode.{voteBytes, blockCertificateBytes, timeoutBytes, timeoutsBytes, proposalBytes, releaseBytes, joined}
 use Rattle.wire.specs.Fit.{IsName, All}
@@ -19,9 +20,10 @@ use Rattle.memory.specs.Layout.{memoryLength}
 use Rattle.memory.specs.Leaders.{byList}
 use Rattle.protocol.specs.Typed.{CountersTyped, BlockTyped}
 use Rattle.protocol.specs.Refusals.{storeLength, outputLength}
+use Rattle.protocol.specs.Contents.{Contents, none, given}
 use Rattle.protocol.specs.Calls.{Replica, Outcome, openingCall, timerCall, proposeCall}
 use Rattle.protocol.specs.OneCall.{propose, left}
-use Rattle.protocol.specs.OneChain.{Entry, calls, written, Premises, rowOf}
+use Rattle.protocol.specs.OneChain.{Entry, calls, written, Premises, OnePlacement, OneDigest, rowOf}
 
 abbrev pub one : Settings
 one = record { f = 0; c = 0; k = 0 }
@@ -82,18 +84,26 @@ pub record Enters (o : Outcome) : Type 0 where
 abbrev pub TimerEnters : Type 0
 TimerEnters = (lent : Replica) (leaders output : List ℕ) → Alone lent leaders → outputLength ≤ length output → Enters (timerCall (openedAlone lent leaders) output 1)
 
--- ---- demand 3: a run of that propose alone. Its one replica is honest, since f is 0; the premises are met, and its row is the block
+-- ---- demand 3: a run of that propose alone, without contents, or with contents whose digest the name is. Its one replica is honest, since f is 0; the premises are
+-- met, with contents that on names in 02's form too, and its row is the block
 abbrev pub itself : ℕ → Bool
 itself i = eqb i 0
 
-abbrev pub proposes : List ℕ → List ℕ → List (ℕ × Entry)
-proposes output x = (0, record { output = output; step = calls (propose x) }) ∷ []
+abbrev pub proposes : List ℕ → List ℕ → Contents → List (ℕ × Entry)
+proposes output x c = (0, record { output = output; step = calls (propose x c) }) ∷ []
 
-pub record Releases (lent : Replica) (leaders output x : List ℕ) : Type 0 where
-  pub premises : Premises one itself (λ i. openedAlone lent leaders) (proposes output x) leaders
-  pub row : rowOf one itself (λ i. openedAlone lent leaders) (proposes output x) 0 ≡ (x, 1) ∷ []
+pub record Releases (lent : Replica) (leaders output x : List ℕ) (c : Contents) : Type 0 where
+  pub premises : Premises one itself (λ i. openedAlone lent leaders) (proposes output x c) leaders
+  pub names : OnePlacement one itself (λ i. openedAlone lent leaders) (proposes output x c)
+  pub row : rowOf one itself (λ i. openedAlone lent leaders) (proposes output x c) 0 ≡ (x, 1) ∷ []
 
 abbrev pub RunReleases : Type 0
 RunReleases =
     (lent : Replica) (leaders output x : List ℕ) → Alone lent leaders → CountersTyped (lent .counters) → outputLength ≤ length output → IsName x → (x ≡ zeroName → ⊥)
-    → Releases lent leaders output x
+    → Releases lent leaders output x none
+
+abbrev pub CheckedReleases : Type 0
+CheckedReleases =
+    (lent : Replica) (leaders output s : List ℕ) → let x = nameOf zeroName 1 s in
+    Alone lent leaders → CountersTyped (lent .counters) → outputLength ≤ length output → length s ≤ longestContents → (x ≡ zeroName → ⊥)
+    → Releases lent leaders output x (given s) × OneDigest one itself (λ i. openedAlone lent leaders) (proposes output x (given s))

@@ -1,4 +1,4 @@
--- A RUN OF DEMAND 3: six replicas, five of them honest, and what each of these is handed, as data. That it meets every premise of OneChain.antt, and that
+-- A RUN OF DEMAND 3: six replicas, five of them honest, and what each of these is handed, as data. That it meets every premise of OneChain.antt, in both forms, and that
 -- replica 1 then has released the block, is proofs/example/Premises.antt. Assumes nothing.
 use Prim.Native.Nat.{ℕ}
 use mathlib.Core.Bool.{Bool, _&&_}
@@ -7,12 +7,14 @@ use lib.Dec.{leb}
 use lib.ListN.{replicate}
 use Rattle.settings.specs.declared.Settings.{Settings}
 use Rattle.codec.specs.Names.{nameLength, zeroName}
+use Rattle.digest.specs.Sha256.{beBytes}
 use Rattle.wire.specs.Encode.{voteBytes, blockCertificateBytes, proposalBytes}
 use Rattle.blocks.specs.declared.Block.{Block}
 use Rattle.blocks.specs.Store.{genesis}
 use Rattle.memory.specs.Layout.{memoryLength}
 use Rattle.counters.specs.Counters.{opened}
 use Rattle.protocol.specs.Refusals.{storeLength, outputLength}
+use Rattle.protocol.specs.Contents.{given}
 use Rattle.protocol.specs.Calls.{Replica, openedMemory}
 use Rattle.protocol.specs.OneCall.{receive}
 use Rattle.protocol.specs.OneChain.{Entry, calls}
@@ -44,9 +46,12 @@ abbrev pub openedAs : ℕ → Replica
 openedAs i = record { counters = opened; memory = openedMemory lentMemory six i leaders; store = lentStore }
 
 -- ---- the records
--- the block's name: 32 bytes 01 hex
+-- the block's contents, "abc", and its name, which is the digest of genesis, height 1 and these: by `sha256sum` of the 43 bytes
+abbrev pub blockContents : List ℕ
+blockContents = 0x61 ∷ 0x62 ∷ 0x63 ∷ []
+
 unfoldable pub blockName : List ℕ
-blockName = replicate nameLength 1
+blockName = beBytes nameLength 0x64356fb03f8d51a5e1241a72375db2444558064f54b6a925e2a0f715e0603cfe
 
 -- replica 0 proposes the block in view 1, on genesis, at height 1, with the genesis certificate
 abbrev pub theProposal : List ℕ
@@ -60,9 +65,9 @@ voteOf j = voteBytes 1 j 1 blockName
 abbrev pub theCertificate : List ℕ
 theCertificate = blockCertificateBytes 0 1 blockName 60
 
--- ---- the run
+-- ---- the run. Each record is handed over with the block's contents: beside votes and certificates only their length is judged
 abbrev pub handed : List ℕ → Entry
-handed bytes = record { output = lentOutput; step = calls (receive bytes) }
+handed bytes = record { output = lentOutput; step = calls (receive bytes (given blockContents)) }
 
 -- Every honest replica is handed the proposal, holds the block and votes for it. Replica 1 is handed the certificate: it locks, enters view 2 and commits.
 -- Then it is handed the votes of the others, those of 2 to 5 as they made them, and with the last one releases the block

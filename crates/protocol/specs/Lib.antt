@@ -1,6 +1,7 @@
 pub mod Work
 pub mod Typed
 pub mod Refusals
+pub mod Contents
 pub mod Events
 pub mod Rules
 pub mod Applies

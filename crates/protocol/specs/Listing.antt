@@ -2,12 +2,13 @@
 -- and the lines that it is to print. That the calls give these lines, over any regions that are long enough, is proofs/example/Listing.antt. Assumes nothing.
 use Prim.Native.Nat.{ℕ}
 use mathlib.Core.List.{List, [], _∷_}
+use lib.ListN.{replicate}
 use Rattle.settings.specs.Answer.{Answer, accepts, refuses}
+use Rattle.codec.specs.Names.{nameLength}
 use Rattle.memory.specs.Leaders.{byList}
 use Rattle.counters.specs.declared.Counters.{Counters}
 use Rattle.protocol.specs.Calls.{Replica, Outcome, timerCall, proposeCall}
 use Rattle.protocol.specs.OneCall.{left}
-use Rattle.protocol.specs.Example.{blockName}
 
 -- "Lines: call, answer, then view, timed and tip height after it"
 pub record Line : Type 0 where
@@ -32,13 +33,17 @@ lineOf call answer c = line call answer (c .view .0) (c .timed .0) (c .tip .heig
 abbrev pub lineAfter : ℕ → Outcome → Line
 lineAfter call o = lineOf call (number (o .reply)) (o .counters)
 
+-- "the name of 32 bytes 01 hex"
+unfoldable pub listedName : List ℕ
+listedName = replicate nameLength 1
+
 -- the calls on a replica that was opened, each with an output region of its own
 abbrev pub linesOf : Replica → List ℕ → List ℕ → List ℕ → List ℕ → List Line
 linesOf r a b c d =
     let first = timerCall r a 2 in
     let second = timerCall (left first) b 1 in
     let third = timerCall (left second) c 1 in
-    let fourth = proposeCall byList (left third) d blockName in
+    let fourth = proposeCall byList (left third) d listedName in
     lineAfter 1 first ∷ lineAfter 2 second ∷ lineAfter 3 third ∷ lineAfter 4 fourth ∷ []
 
 abbrev pub printed : List Line

@@ -13,24 +13,25 @@ use Rattle.memory.specs.Layout.{settingsOf, ownOf, leadersOf}
 use Rattle.memory.specs.Leaders.{Leading}
 use Rattle.protocol.specs.Typed.{Typed}
 use Rattle.protocol.specs.Refusals.{outputLength, regionRules}
-use Rattle.protocol.specs.Calls.{Replica, begin, Outcome, recordCall, timerCall, proposeCall}
+use Rattle.protocol.specs.Contents.{Contents}
+use Rattle.protocol.specs.Calls.{Replica, begin, Outcome, timerCall, recordCallWith, proposeCallWith}
 
--- ---- a call on a replica that was opened, and what its input's type says
+-- ---- a call on a replica that was opened, and what its input's type says. A record and a propose come with contents or with none (02, 2.5), of which nothing is asked
 pub data Call : Type 0 where
-  receive : List ℕ → Call
+  receive : List ℕ → Contents → Call
   timer : ℕ → Call
-  propose : List ℕ → Call
+  propose : List ℕ → Contents → Call
 
 abbrev pub CallTyped : Call → Type 0
-CallTyped (receive bytes) = IsBytes bytes
+CallTyped (receive bytes c) = IsBytes bytes
 CallTyped (timer v) = IsU64 v
-CallTyped (propose x) = IsName x
+CallTyped (propose x c) = IsName x
 
 -- by a rule that says who leads a view
 abbrev pub callOn : Leading → Replica → List ℕ → Call → Outcome
-callOn lead r output (receive bytes) = recordCall lead r output bytes
+callOn lead r output (receive bytes c) = recordCallWith lead r output bytes c
 callOn lead r output (timer v) = timerCall r output v
-callOn lead r output (propose x) = proposeCall lead r output x
+callOn lead r output (propose x c) = proposeCallWith lead r output x c
 
 abbrev pub ReplicaTyped : Replica → Type 0
 ReplicaTyped r = Typed (begin r)
@@ -39,22 +40,24 @@ ReplicaTyped r = Typed (begin r)
 abbrev pub left : Outcome → Replica
 left o = record { counters = o .counters; memory = o .memory; store = o .store }
 
--- ---- THE ORDER OF REFUSALS (01: "Refusals, by place, in this order"): the numbers of each call as 01 asks them, one after another
+-- ---- THE ORDER OF REFUSALS (01: "Refusals, by place, in this order"; 02, 2.5): the numbers of each call as the papers ask them, one after another
 -- "opening", 1, of the settings, the own number and the leader list; then "regions", 2
 abbrev pub openingOrder : List ℕ
 openingOrder = 1 ∷ 2 ∷ []
 
--- "regions", 2; "shape", 3, 4 and 5; "party", 6; "view", 7 and 8; "certificate", 9; "before", 10 and 11; "chain", 12, 13 and 14
+-- "regions", 2; "shape", 3, 4 and 5; "party", 6; "view", 7 and 8; "certificate", 9; "before", 10 and 11; "chain", 12, 13 and 14. Of contents 16, "right after 2",
+-- and 17, "right before 10"
 abbrev pub recordOrder : List ℕ
-recordOrder = 2 ∷ 3 ∷ 4 ∷ 5 ∷ 6 ∷ 7 ∷ 8 ∷ 9 ∷ 10 ∷ 11 ∷ 12 ∷ 13 ∷ 14 ∷ []
+recordOrder = 2 ∷ 16 ∷ 3 ∷ 4 ∷ 5 ∷ 6 ∷ 7 ∷ 8 ∷ 9 ∷ 17 ∷ 10 ∷ 11 ∷ 12 ∷ 13 ∷ 14 ∷ []
 
 -- the places of the table that speak of the timer: "regions"; 7, "below the current view (6, 7, timer)"; 8, "timer above the current view"; 10, "timer with timed ≥ view"
 abbrev pub timerOrder : List ℕ
 timerOrder = 2 ∷ 7 ∷ 8 ∷ 10 ∷ []
 
--- "15 propose: ... Checked right after 2; then 5 (zero name), 11 (name held), 12 (safe block not held), 13 (height over 2^62), 14"
+-- "15 propose: ... Checked right after 2; then 5 (zero name), 11 (name held), 12 (safe block not held), 13 (height over 2^62), 14". Of contents 16, "before 15", and
+-- 17, "before 14"
 abbrev pub proposeOrder : List ℕ
-proposeOrder = 2 ∷ 15 ∷ 5 ∷ 11 ∷ 12 ∷ 13 ∷ 14 ∷ []
+proposeOrder = 2 ∷ 16 ∷ 15 ∷ 5 ∷ 11 ∷ 12 ∷ 13 ∷ 17 ∷ 14 ∷ []
 
 -- the place of a number in an order: what of the order stands from that number on. A number that isn't in the order has no place, and nothing stands from it on
 unfoldable pub place : List ℕ → ℕ → List ℕ

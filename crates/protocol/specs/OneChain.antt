@@ -1,6 +1,6 @@
--- DEMAND 3 (01: A run of the ring; 02: 2.1, 2.2): the run, the premises and the claim, each under the sentence of 01 that it states. No proof is here: it is
--- proofs/chain/Demand3.antt. It speaks of `recordCall`, `timerCall`, `proposeCall` and `openingCall` of Calls.antt, with which the contracts of the calls in code, `replica::hydrangea_*`,
--- are equations: so what is shown here of these definitions holds of the code. Outside lie the host (docs/INTERFACE.md lists its duties, which are the premises), the signatures and the compiler's back end. Assumes nothing.
+-- DEMAND 3 (01: A run of the ring; 02: 2.1, 2.2, 2.5): the run, the premises and the claim, each under the sentence of 01 or 02 that it states. No proof is here: it is
+-- proofs/chain/Demand3.antt and Checked.antt. It speaks of `recordCallWith`, `timerCall`, `proposeCallWith` and `openingCall` of Calls.antt, with which the contracts of the calls in code, `replica::hydrangea_*`,
+-- are equations (without contents these are `recordCall` and `proposeCall`: AsBefore.antt): so what is shown here of these definitions holds of the code. Outside lie the host (docs/INTERFACE.md lists its duties, which are the premises), the signatures and the compiler's back end. Assumes nothing.
 use Prim.Native.Nat.{ℕ, zero, suc, _+_, _≤_, _<_}
 use mathlib.Core.Bool.{Bool, true, false, cond}
 use mathlib.Core.List.{List, [], _∷_, _++_}
@@ -12,24 +12,29 @@ use Rattle.settings.specs.Answer.{Answer, accepts, refuses}
 use Rattle.settings.specs.Quorum.{replicas}
 use Rattle.codec.specs.Bytes.{IsBytes}
 use Rattle.codec.specs.Names.{zeroName}
+use Rattle.digest.specs.Name.{nameOf}
 use Rattle.wire.specs.Fields.{lengthOf, progressOf, slots}
 use Rattle.wire.specs.Encode.{voteBytes}
 use Rattle.wire.specs.Content.{Certificate, byBlock, byTimeouts, timeoutOf, Content, vote, commit, certificate, timeout, proposal, block, release, content}
 use Rattle.wire.specs.Fit.{All}
 use Rattle.certificate.specs.Safe.{signs}
+use Rattle.blocks.specs.declared.Block.{Block}
 use Rattle.memory.specs.Leaders.{byList}
 use Rattle.safety.specs.Lists.{In}
 use Rattle.safety.specs.Count.{count}
 use Rattle.safety.specs.Rows.{Begins, Linked}
-use Rattle.safety.specs.Run.{Machine, Read, is-vote, is-commit, is-timeout, is-release, is-other, AllAllowed, Earlier, placements, row}
+use Rattle.safety.specs.Run.{Machine, Read, is-vote, is-commit, is-timeout, is-release, is-other, AllAllowed, Earlier, gathered, placements, row}
 use Rattle.safety.specs.Certificates as Seen
 use Rattle.protocol.specs.Work.{Work, n}
 use Rattle.protocol.specs.Typed.{CountersTyped, BlockTyped}
+use Rattle.protocol.specs.Refusals.{nextBlock}
+use Rattle.protocol.specs.Contents.{Contents, none, given}
 use Rattle.protocol.specs.Calls.{Replica, begin, openingCore, Outcome, openingCall}
 use Rattle.protocol.specs.OneCall.{Call, receive, timer, propose, CallTyped, callOn, left}
 
 -- ---- THE RUN
--- "a call on that box: record (any bytes), timer (any view), propose (any name), or an opening that is refused" (the refusal is a premise below)
+-- "a call on that box: record (any bytes), timer (any view), propose (any name), or an opening that is refused" (the refusal is a premise below). 02, 2.5: a record and a
+-- propose with any contents, or with none
 pub data Step : Type 0 where
   calls : Call → Step
   -- f, c, k, n, own number, leader list
@@ -94,9 +99,9 @@ recordSays n r (block j x y h) = []
 recordSays n r (release j v x h) = []
 
 abbrev pub stepSays : ℕ → Step → List (ℕ × List ℕ)
-stepSays n (calls (receive b)) = recordSays n b (content b)
+stepSays n (calls (receive b c)) = recordSays n b (content b)
 stepSays n (calls (timer v)) = []
-stepSays n (calls (propose x)) = []
+stepSays n (calls (propose x c)) = []
 stepSays n (reopens f c k m own leaders) = []
 
 -- a call is asked what it says only where it is accepted
@@ -124,13 +129,54 @@ recordsGive [] = []
 recordsGive (r ∷ l) = recordGives (content r) ++ recordsGive l
 
 abbrev pub stepGives : Step → List Placement
-stepGives (calls (receive b)) = recordGives (content b)
+stepGives (calls (receive b c)) = recordGives (content b)
 stepGives (calls (timer v)) = []
-stepGives (calls (propose x)) = []
+stepGives (calls (propose x c)) = []
 stepGives (reopens f c k m own leaders) = []
 
 unfoldable pub gives : Replica → Entry → List Placement
 gives r e = cond (accepted (outcomeOf r e .reply)) (stepGives (e .step) ++ recordsGive (makes r e)) []
+
+-- ---- CHECKED BLOCKS (02, 2.5): the blocks that an accepted call takes, of kinds 7 and 8, "own proposals included", each with the contents that it came with
+abbrev pub beside : Contents → List Placement → List (Placement × Contents)
+beside c [] = []
+beside c (b ∷ l) = (b, c) ∷ beside c l
+
+-- an own proposal is "with the safe block and its height plus 1"
+abbrev pub ownPlacement : Block → Placement
+ownPlacement b = record { name = b .name; parent = b .parent; height = b .height .0 }
+
+abbrev pub stepTakes : Replica → Step → List (Placement × Contents)
+stepTakes r (calls (receive b c)) = beside c (recordGives (content b))
+stepTakes r (calls (timer v)) = []
+stepTakes r (calls (propose x c)) = beside c (ownPlacement (nextBlock (begin r) x) ∷ [])
+stepTakes r (reopens f c k m own leaders) = []
+
+unfoldable pub takes : Replica → Entry → List (Placement × Contents)
+takes r e = cond (accepted (outcomeOf r e .reply)) (stepTakes r (e .step)) []
+
+-- "parent name, height as u64 little-endian, and the contents", and their digest
+pub record Triple : Type 0 where
+  pub parent : List ℕ
+  pub height : ℕ
+  pub contents : List ℕ
+
+abbrev pub digestOf : Triple → List ℕ
+digestOf t = nameOf (t .parent) (t .height) (t .contents)
+
+-- the triple of a block, and those of some blocks; one that came without contents has none
+abbrev pub tripleOf : Placement × Contents → List Triple
+tripleOf (b, none) = []
+tripleOf (b, given s) = record { parent = b .parent; height = b .height; contents = s } ∷ []
+
+abbrev pub triplesOf : List (Placement × Contents) → List Triple
+triplesOf [] = []
+triplesOf (p ∷ l) = tripleOf p ++ triplesOf l
+
+-- it came with contents
+abbrev pub Given : Placement × Contents → Type 0
+Given (b, none) = ⊥
+Given (b, given s) = Unit {0}
 
 -- what is handed over has the types of the interface: any bytes, any view of 64 bits, any name of 32 bytes
 abbrev pub StepTyped : Step → Type 0
@@ -187,9 +233,12 @@ module _ (set : Settings) (honest : ℕ → Bool) (σ : ℕ → Replica) where
   M = replicaMachine
 
   module _ (run : List (ℕ × Entry)) where
-    -- all placements of the run
+    -- all placements of the run, and all blocks that were taken in it
     abbrev pub placed : List Placement
     placed = placements M σ run
+
+    abbrev pub taken : List (Placement × Contents)
+    taken = gathered M takes σ run
 
     -- of a cluster whose leader list is this one
     pub record Premises (leaders : List ℕ) : Type 0 where
@@ -203,8 +252,16 @@ module _ (set : Settings) (honest : ℕ → Bool) (σ : ℕ → Replica) where
       pub allowed : AllAllowed M σ run
       -- "For each accepted record in the list: ... that box made it earlier in the list; so too ...; and each honest signer ... earlier made the vote"
       pub earlier : Earlier M honest σ [] run
-      -- "by premise no two of these differ"
-      pub one-placement : (a b : Placement) → In a placed → In b placed → a .name ≡ b .name → (a .parent ≡ b .parent) × (a .height ≡ b .height)
+
+    -- THE PREMISE ON NAMES: "by premise no two of these differ"
+    abbrev pub OnePlacement : Type 0
+    OnePlacement = (a b : Placement) → In a placed → In b placed → a .name ≡ b .name → (a .parent ≡ b .parent) × (a .height ≡ b .height)
+
+    -- and its other form. 02, 2.5: "Where every honest box of the ring takes only checked blocks, own proposals included, the premise about names becomes: no two
+    -- different triples in the run have the same digest"
+    pub record OneDigest : Type 0 where
+      pub checked : All Given taken
+      pub one-triple : (a b : Triple) → In a (triplesOf taken) → In b (triplesOf taken) → digestOf a ≡ digestOf b → a ≡ b
 
     -- ---- THE CLAIM
     -- "An honest box's row is the kind 9 records it made, its releases, in the order written, each as name and height"
@@ -232,4 +289,11 @@ module _ (set : Settings) (honest : ℕ → Bool) (σ : ℕ → Replica) where
 -- argument, a ring of one box included": of the settings nothing is asked but that opening takes them
 abbrev pub Demand3 : Type 0
 Demand3 =
-    (set : Settings) (leaders : List ℕ) (honest : ℕ → Bool) (σ : ℕ → Replica) (run : List (ℕ × Entry)) → Premises set honest σ run leaders → OneChain set honest σ run
+    (set : Settings) (leaders : List ℕ) (honest : ℕ → Bool) (σ : ℕ → Replica) (run : List (ℕ × Entry)) → Premises set honest σ run leaders → OnePlacement set honest σ run
+    → OneChain set honest σ run
+
+-- 02, 2.5: the same where all blocks are checked
+abbrev pub Demand3Checked : Type 0
+Demand3Checked =
+    (set : Settings) (leaders : List ℕ) (honest : ℕ → Bool) (σ : ℕ → Replica) (run : List (ℕ × Entry)) → Premises set honest σ run leaders → OneDigest set honest σ run
+    → OneChain set honest σ run

@@ -59,9 +59,13 @@ module _ (M : Machine) where
   AllAllowed σ [] = Unit {0}
   AllAllowed σ (e ∷ r) = M .Allowed (σ (e .0)) (e .1) × AllAllowed (after σ (e .0) (e .1)) r
 
+  -- what is found at each call of the list, where it stands
+  abbrev pub gathered : {A : Type 0} → (M .State → M .Call → List A) → (ℕ → M .State) → List (ℕ × M .Call) → List A
+  gathered find σ [] = []
+  gathered find σ (e ∷ r) = find (σ (e .0)) (e .1) ++ gathered find (after σ (e .0) (e .1)) r
+
   abbrev pub placements : (ℕ → M .State) → List (ℕ × M .Call) → List (M .Placement)
-  placements σ [] = []
-  placements σ (e ∷ r) = M .gives (σ (e .0)) (e .1) ++ placements (after σ (e .0) (e .1)) r
+  placements = gathered (M .gives)
 
 module _ (M : Machine) (honest : ℕ → Bool) where
   -- THE PREMISE: what an accepted record says of an honest replica, that replica made earlier

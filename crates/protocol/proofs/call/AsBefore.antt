@@ -19,10 +19,11 @@ use Rattle.memory.specs.Layout.{settingsOf, leadersOf}
 use Rattle.memory.specs.Leaders.{byList, roundRobin}
 use Rattle.memory.proofs.Leading.{in-turn-is}
 use Rattle.protocol.specs.Work.{Work, n}
-use Rattle.protocol.specs.Refusals.{regionRules, refusals, proposeRules}
+use Rattle.protocol.specs.Refusals.{regionRules, refusals, nextBlock, proposeRules}
 use Rattle.protocol.specs.Rules.{settle}
 use Rattle.protocol.specs.Events.{onRecord, onPropose}
-use Rattle.protocol.specs.Calls.{Replica, begin, _then_, lengthRules, recordCore, proposeCore, openingCore, Outcome, outcome, recordCall, proposeCall}
+use Rattle.protocol.specs.Contents.{tooLongRule, digestRule, recordDigestRule, rightBefore}
+use Rattle.protocol.specs.Calls.{Replica, begin, _then_, lengthRules, recordCoreWith, proposeCoreWith, openingCore, Outcome, outcome, recordCallWith, proposeCallWith}
 use Rattle.protocol.specs.OneCall.{Call, receive, timer, propose, callOn, left, Handing, HandingTyped, outcomes}
 use Rattle.protocol.specs.AsBefore.{openedWith, OpensAsBefore, CallsAsBefore}
 use Rattle.protocol.proofs.call.OneCall.{RegularReplica, call-keeps, call-same, opening-accepted}
@@ -70,14 +71,16 @@ propose-same r e x = rw (in-turn-is (r .memory) e (r .counters .view .0))
 
 -- each call is the call by 01's rule
 pub call-as-before : (r : Replica) (output : List ℕ) (c : Call) → Led r → callOn byList r output c ≡ callOn roundRobin r output c
-unfolding recordCall recordCore proposeCall proposeCore
-call-as-before r output (receive bytes) e =
+unfolding recordCallWith recordCoreWith proposeCallWith proposeCoreWith
+call-as-before r output (receive bytes c) e =
     let W = begin r in
-    ap (λ (l : List Rule). outcome r output (judge (regionRules W (length output) then shapeRules (n W) bytes then l) (settle (onRecord bytes (content bytes) W)))) (refusals-same r e bytes (content bytes))
+    let digest = recordDigestRule W (content bytes) c in
+    ap (λ (l : List Rule). outcome r output (judge (regionRules W (length output) then tooLongRule c then shapeRules (n W) bytes then rightBefore 10 digest l) (settle (onRecord bytes (content bytes) W))))
+    (refusals-same r e bytes (content bytes))
 call-as-before r output (timer v) e = refl
-call-as-before r output (propose x) e =
+call-as-before r output (propose x c) e =
     let W = begin r in
-    ap (λ (l : List Rule). outcome r output (judge (regionRules W (length output) then l) (settle (onPropose x W)))) (propose-same r e x)
+    ap (λ (l : List Rule). outcome r output (judge (regionRules W (length output) then tooLongRule c then rightBefore 14 (digestRule (nextBlock W x) c) l) (settle (onPropose x W)))) (propose-same r e x)
 
 calls-led : (r : Replica) (ts : List Handing) → All HandingTyped ts → RegularReplica r → Led r → outcomes byList r ts ≡ outcomes roundRobin r ts
 unfolding outcomes All

@@ -126,18 +126,22 @@ bytes-entry : (m : List ℕ) → IsBytes m → IsBytes (entryOf m)
 unfolding entryOf
 bytes-entry m b = bytes-part m _ _ b
 
+-- the block of a name that passes the tests
+pub next-typed : (W : Work) (x : List ℕ) → IsName x → misplaced W (nextBlock W x) ≡ false → Regular W → BlockTyped (nextBlock W x)
+next-typed W x hx placed R =
+    let r = entryOf (W .memory) in
+    let safe = fits-typed (settings W) (certificateOf r) (omega (arith, R .few)) (form-fits (n W) r (bytes-entry (W .memory) (R .typed .memory)) (R .entry)) in
+    record { name = hx; parent = safe .name; height = omega (arith, placed-high W (nextBlock W x) placed) }
+
 pub propose-done : (W : Work) (x : List ℕ) → IsName x → Quiet (proposeRules W byList x) → Regular W → Done eventRoom W (onPropose x W)
 unfolding onPropose proposeRules
 propose-done W x hx q R =
     let r = entryOf (W .memory) in
     let b = nextBlock W x in
-    let br : IsBytes r = bytes-entry (W .memory) (R .typed .memory) in
-    let safe = fits-typed (settings W) (certificateOf r) (omega (arith, R .few)) (form-fits (n W) r br (R .entry)) in
-    let high : b .height .0 ≤ lastHeight = placed-high W b (q .1 .1 .1 .1 .0) in
-    let typed : BlockTyped b = record { name = hx; parent = safe .name; height = omega arith } in
+    let typed = next-typed W x hx (q .1 .1 .1 .1 .0) R in
     let bytes = proposalBytes (own W) (viewNow W) (b .name) (b .parent) (b .height .0) r in
     let W₁ = send W bytes in
-    let d = proposal-now W₁ b r typed br (R .entry) (q .1 .1 .1 .1 .1 .0) (send-regular W bytes R) in
+    let d = proposal-now W₁ b r typed (bytes-entry (W .memory) (R .typed .memory)) (R .entry) (q .1 .1 .1 .1 .1 .0) (send-regular W bytes R) in
     let sent : length (W₁ .out) ≤ length (W .out) + (proposalHead + entryRoom) =
-    omega (arith, send-out W bytes, length-proposal x hx (b .parent) (safe .name) (own W) (viewNow W) (b .height .0) r, form-room (n W) r (R .few) (R .entry)) in
+    omega (arith, send-out W bytes, length-proposal x hx (b .parent) (typed .parent) (own W) (viewNow W) (b .height .0) r, form-room (n W) r (R .few) (R .entry)) in
     record { regular = d .regular; still = still-trans W W₁ _ (same-still W W₁ refl refl) (d .still); written = omega (arith, sent, d .written) }

@@ -4,12 +4,12 @@ use Prim.Native.Nat.{ℕ, _+_, _≤_}
 use native.Mathlib.Omega.{arith}
 use mathlib.Core.Path.{_≡_, refl, sym, ap, _∙_, subst}
 use mathlib.Core.Bool.{not}
-use mathlib.Core.List.{List, [], _∷_, _++_}
+use mathlib.Core.List.{List, [], _∷_}
 use borrow.Author.Tests.{ltb-false, le-ltb, not-false}
 use lib.ListN.{length, drop, length-append, length-drop}
 use lib.Seq.{drop-append-seam}
 use Rattle.settings.specs.declared.Settings.{Settings}
-use Rattle.settings.specs.Answer.{Answer, accepts, refuses, Rule}
+use Rattle.settings.specs.Answer.{Answer, accepts, refuses}
 use Rattle.settings.specs.Quorum.{replicas}
 use Rattle.codec.specs.Bytes.{IsBytes}
 use Rattle.wire.specs.Content.{content}
@@ -22,7 +22,7 @@ use Rattle.protocol.specs.Work.{Work, n}
 use Rattle.protocol.specs.Typed.{BlockTyped, Typed}
 use Rattle.protocol.specs.Refusals.{outputLength, regular, regionRules, refusals}
 use Rattle.protocol.specs.Rules.{settle}
-use Rattle.protocol.specs.Calls.{Replica, begin, recordCore, timerCore, proposeCore, openingCore, Outcome, outcome, recordCall, timerCall, proposeCall, openingCall}
+use Rattle.protocol.specs.Calls.{Replica, begin, recordCore, timerCore, proposeCore, recordCoreWith, proposeCoreWith, openingCore, Outcome, outcome, timerCall, recordCallWith, proposeCallWith, openingCall}
 use Rattle.protocol.specs.OneCall.{Call, receive, timer, propose, CallTyped, callOn, ReplicaTyped, left, Untouched, Wrote, Same, Passes, Handing, HandingTyped, after}
 use Rattle.protocol.proofs.call.Regular.{Regular, Still, regular-rules, rules-regular, regular-after, still-trans}
 use Rattle.protocol.proofs.call.Actions.{same-still}
@@ -30,6 +30,7 @@ use Rattle.protocol.proofs.loop.Settle.{settle-regular}
 use Rattle.protocol.proofs.call.Output.{settleRoom, settle-out}
 use Rattle.protocol.proofs.call.Proposals.{Done}
 use Rattle.protocol.proofs.call.Events.{eventRoom, record-done, timer-done, propose-done}
+use Rattle.protocol.proofs.call.Contents.{quiet-append, record-checked, propose-checked}
 use Rattle.protocol.proofs.call.Opening.{Openable, openedWork, opening-accepts, length-opened, opened-regular, opened-settings, opened-own, opened-leaders}
 
 -- ---- the outcome, of any call
@@ -61,10 +62,6 @@ reply-accepts r output (accepts W) k e = (W, refl, let z : length (W .out) ≡ k
 reply-accepts r output (refuses b) k e = absurd (let z : _≡_ {A = ℕ} 0 1 = cc in omega arith)
 
 -- ---- refusal 2
-pub quiet-append : (a b : List Rule) → Quiet (a ++ b) → Quiet a × Quiet b
-quiet-append [] b q = (tt, q)
-quiet-append (r ∷ a) b q = let p = quiet-append a b (q .1) in ((q .0, p .0), p .1)
-
 pub regions-regular : (W : Work) (room : ℕ) → Typed W → Quiet (regionRules W room) → Regular W × (outputLength ≤ room)
 unfolding regionRules
 regions-regular W room t q =
@@ -118,21 +115,21 @@ propose-finished r room x W t h e =
 
 -- ---- THE CALLS
 unfoldable pub coreOf : Replica → ℕ → Call → Answer Work
-coreOf r room (receive bytes) = recordCore byList r room bytes
+coreOf r room (receive bytes c) = recordCoreWith byList r room bytes c
 coreOf r room (timer v) = timerCore r room v
-coreOf r room (propose x) = proposeCore byList r room x
+coreOf r room (propose x c) = proposeCoreWith byList r room x c
 
 pub call-is : (r : Replica) (output : List ℕ) (c : Call) → callOn byList r output c ≡ outcome r output (coreOf r (length output) c)
-unfolding coreOf recordCall timerCall proposeCall
-call-is r output (receive bytes) = refl
+unfolding coreOf recordCallWith timerCall proposeCallWith
+call-is r output (receive bytes c) = refl
 call-is r output (timer v) = refl
-call-is r output (propose x) = refl
+call-is r output (propose x c) = refl
 
 finished : (r : Replica) (room : ℕ) (c : Call) (W : Work) → ReplicaTyped r → CallTyped c → coreOf r room c ≡ accepts W → Finished r room W
 unfolding coreOf
-finished r room (receive bytes) W t h e = record-finished r room bytes W t h e
+finished r room (receive bytes c) W t h e = record-finished r room bytes W t h (record-checked byList r room bytes c W e .accepted)
 finished r room (timer v) W t h e = timer-finished r room v W t h e
-finished r room (propose x) W t h e = propose-finished r room x W t h e
+finished r room (propose x c) W t h e = propose-finished r room x W t h (propose-checked byList r room x c W e .accepted)
 
 -- "refused": everything is as it was
 pub call-refused : (r : Replica) (output : List ℕ) (c : Call) (a : ℕ) → callOn byList r output c .reply ≡ refuses a → Untouched r output a (callOn byList r output c)

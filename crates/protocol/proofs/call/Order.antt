@@ -1,4 +1,4 @@
--- The refusals of each call stand in 01's order: "Refusals, by place, in this order". Of each call the whole list is taken, as Calls.antt has it. Assumes nothing.
+-- The refusals of each call stand in the papers' order: "Refusals, by place, in this order", and 16 and 17 of contents. Of each call the whole list is taken, as Calls.antt has it. Assumes nothing.
 use Prim.Native.Nat.{ℕ}
 use mathlib.Core.Path.{_≡_, refl}
 use mathlib.Core.Bool.{true, cond}
@@ -7,13 +7,15 @@ use borrow.Author.Tests.{eqb-true}
 use lib.Dec.{eqb}
 use Rattle.settings.specs.declared.Settings.{Settings}
 use Rattle.settings.specs.Opening.{openingRules, leaderRules}
-use Rattle.wire.specs.Fields.{kindOf, senderOf}
-use Rattle.wire.specs.Content.{Certificate, byBlock, byTimeouts, certificateOf, Content, certificate, content}
+use Rattle.wire.specs.declared.Timeout.{Timeout}
+use Rattle.wire.specs.Fields.{kindOf}
+use Rattle.wire.specs.Content.{Certificate, byBlock, byTimeouts, Content, vote, commit, certificate, timeout, proposal, block, content}
 use Rattle.wire.specs.Shape.{shapeRules, certificateKindBad, badKind}
 use Rattle.memory.specs.Leaders.{Leading}
 use Rattle.protocol.specs.Work.{n}
 use Rattle.protocol.specs.Refusals.{regionRules, refusals, timerRules, proposeRules}
-use Rattle.protocol.specs.Calls.{Replica, begin, _then_, recordRefusals, timerRefusals, proposeRefusals, openingRefusals}
+use Rattle.protocol.specs.Contents.{Contents, none, given, tooLongRule, recordDigestRule, rightBefore}
+use Rattle.protocol.specs.Calls.{Replica, begin, _then_, timerRefusals, recordRefusalsWith, proposeRefusalsWith, openingRefusals}
 use Rattle.protocol.specs.OneCall.{openingOrder, recordOrder, timerOrder, proposeOrder, place, inOrder, InOrder}
 use Rattle.protocol.proofs.Branch.{by-cases}
 
@@ -25,29 +27,49 @@ pub timer-in-order : (r : Replica) (room v : ℕ) → InOrder timerOrder (timerR
 unfolding place inOrder regionRules timerRules
 timer-in-order r room v = refl
 
-pub propose-in-order : (lead : Leading) (r : Replica) (room : ℕ) (x : List ℕ) → InOrder proposeOrder (proposeRefusals lead r room x)
-unfolding place inOrder regionRules proposeRules
-propose-in-order lead r room x = refl
+-- with contents of any length, or with none
+pub propose-in-order : (lead : Leading) (r : Replica) (room : ℕ) (x : List ℕ) (c : Contents) → InOrder proposeOrder (proposeRefusalsWith lead r room x c)
+unfolding place inOrder regionRules proposeRules rightBefore
+propose-in-order lead r room x none = refl
+propose-in-order lead r room x (given s) = refl
 
--- a record of any kind but 9, whatever else its bytes are
-pub record-in-order : (lead : Leading) (r : Replica) (room : ℕ) (bytes : List ℕ) → (kindOf bytes ≡ 9 → ⊥) → InOrder recordOrder (recordRefusals lead r room bytes)
-unfolding place inOrder regionRules refusals content
-record-in-order lead r room bytes other =
-    kind 1 _ _ refl (kind 2 _ _ refl (kind 5 _ _ refl (kind 7 _ _ refl (kind 8 _ _ refl
-    (by-cases Whole (eqb (kindOf bytes) 9) _ _ (λ e. absurd (other (eqb-true (kindOf bytes) 9 e))) (λ e. certified (certificateOf bytes)))))))
+-- what holds of every content but a release's holds of what a record says that isn't of kind 9
+of-kind : (P : Content → Type 0) (bytes : List ℕ) → (kindOf bytes ≡ 9 → ⊥) → ((j v : ℕ) (x : List ℕ) → P (vote j v x)) → ((j v : ℕ) (x : List ℕ) → P (commit j v x))
+    → ((t : Timeout) → P (timeout t)) → ((j v : ℕ) (x y : List ℕ) (h : ℕ) (k : Certificate) → P (proposal j v x y h k)) → ((j : ℕ) (x y : List ℕ) (h : ℕ) → P (block j x y h))
+    → ((j : ℕ) (k : Certificate) → P (certificate j k)) → P (content bytes)
+unfolding content
+of-kind P bytes other votes commits timeouts proposals blocks certificates =
+    kind 1 _ _ (votes _ _ _) (kind 2 _ _ (commits _ _ _) (kind 5 _ _ (timeouts _) (kind 7 _ _ (proposals _ _ _ _ _ _) (kind 8 _ _ (blocks _ _ _ _)
+    (by-cases P (eqb (kindOf bytes) 9) _ _ (λ e. absurd (other (eqb-true (kindOf bytes) 9 e))) (λ e. certificates _ _))))))
   where
-    Whole : Content → Type 0
-    Whole q = let W = begin r in InOrder recordOrder (regionRules W room then shapeRules (n W) bytes then refusals W lead bytes q)
+    kind : (a : ℕ) (p q : Content) → P p → P q → P (cond (eqb (kindOf bytes) a) p q)
+    kind a p q h k = by-cases P (eqb (kindOf bytes) a) p q (λ e. h) (λ e. k)
 
-    kind : (a : ℕ) (p q : Content) → Whole p → Whole q → Whole (cond (eqb (kindOf bytes) a) p q)
-    kind a p q h k = by-cases Whole (eqb (kindOf bytes) a) p q (λ e. h) (λ e. k)
+-- the whole list, of a content
+abbrev Whole : Leading → Replica → ℕ → List ℕ → Contents → Content → Type 0
+Whole lead r room bytes c q =
+    let W = begin r in
+    InOrder recordOrder (regionRules W room then tooLongRule c then shapeRules (n W) bytes then rightBefore 10 (recordDigestRule W q c) (refusals W lead bytes q))
 
-    certified : (k : Certificate) → Whole (certificate (senderOf bytes) k)
-    certified (byBlock v x g) = refl
-    certified (byTimeouts v ts) = refl
+-- a record of any kind but 9, whatever else its bytes are, with contents of any length, or with none
+pub record-in-order : (lead : Leading) (r : Replica) (room : ℕ) (bytes : List ℕ) (c : Contents) → (kindOf bytes ≡ 9 → ⊥) → InOrder recordOrder (recordRefusalsWith lead r room bytes c)
+unfolding place inOrder regionRules refusals rightBefore
+record-in-order lead r room bytes none other =
+    of-kind (Whole lead r room bytes none) bytes other (λ j v x. refl) (λ j v x. refl) (λ t. refl) (λ j v x y h k. refl) (λ j x y h. refl) certified
+  where
+    certified : (j : ℕ) (k : Certificate) → Whole lead r room bytes none (certificate j k)
+    certified j (byBlock v x g) = refl
+    certified j (byTimeouts v ts) = refl
+record-in-order lead r room bytes (given s) other =
+    of-kind (Whole lead r room bytes (given s)) bytes other (λ j v x. refl) (λ j v x. refl) (λ t. refl) (λ j v x y h k. refl) (λ j x y h. refl) certified
+  where
+    certified : (j : ℕ) (k : Certificate) → Whole lead r room bytes (given s) (certificate j k)
+    certified j (byBlock v x g) = refl
+    certified j (byTimeouts v ts) = refl
 
 -- kind 9, a release, which is for the host alone: the rule for 4 of the place "shape" applies to it, so none that stands behind is asked, and up to there the list is in order
-pub release-in-order : (r : Replica) (room : ℕ) (bytes : List ℕ) → kindOf bytes ≡ 9
-    → (badKind bytes ≡ true) × InOrder recordOrder (let W = begin r in regionRules W room then shapeRules (n W) bytes)
+pub release-in-order : (r : Replica) (room : ℕ) (bytes : List ℕ) (c : Contents) → kindOf bytes ≡ 9
+    → (badKind bytes ≡ true) × InOrder recordOrder (let W = begin r in regionRules W room then tooLongRule c then shapeRules (n W) bytes)
 unfolding place inOrder regionRules badKind certificateKindBad
-release-in-order r room bytes nine = (rw nine, refl)
+release-in-order r room bytes none nine = (rw nine, refl)
+release-in-order r room bytes (given s) nine = (rw nine, refl)

@@ -88,7 +88,7 @@ unfolding All
 all-in-typed [] l i a = tt
 all-in-typed (b ∷ row) l i a = (in-typed b l (i .0) a, all-in-typed row l (i .1) a)
 
-ancestry-typed : (t : Block) (l : List Block) (b : Block) → descends t l b ≡ true → BlockTyped b → All BlockTyped l → All BlockTyped (ancestry t l b)
+pub ancestry-typed : (t : Block) (l : List Block) (b : Block) → descends t l b ≡ true → BlockTyped b → All BlockTyped l → All BlockTyped (ancestry t l b)
 unfolding All
 ancestry-typed t l b d h a =
     let r = ancestry-last t l b d in

@@ -5,6 +5,7 @@ use mathlib.Core.Path.{_≡_, refl, sym, ap, _∙_}
 use mathlib.Core.Bool.{Bool, true, false, cond}
 use mathlib.Core.List.{List, [], _∷_, _++_}
 use borrow.Author.Tests.{le-ltb, lt-ltb}
+use lib.Dec.{eqb}
 use lib.ListN.{length}
 use Rattle.settings.specs.Answer.{Answer, accepts, refuses, Rule, judge}
 use Rattle.codec.specs.Bytes.{IsBytes}
@@ -12,13 +13,16 @@ use Rattle.wire.specs.Content.{Content, vote, commit, certificate, timeout, pro
 use Rattle.wire.specs.Fit.{All}
 use Rattle.wire.specs.Shape.{shapeRules}
 use Rattle.wire.proofs.Facts.{Quiet}
+use Rattle.blocks.specs.declared.Block.{Block}
 use Rattle.memory.specs.Layout.{settingsOf, ownOf, leadersOf}
 use Rattle.memory.specs.Leaders.{Leading, byList}
 use Rattle.protocol.specs.Work.{Work, n}
 use Rattle.protocol.specs.Typed.{BlockTyped}
-use Rattle.protocol.specs.Refusals.{outputLength, regionRules, refusals, timerRules, proposeRules}
-use Rattle.protocol.specs.Calls.{Replica, begin, recordCore, timerCore, proposeCore, Outcome, outcome, openingCall, _then_}
+use Rattle.protocol.specs.Refusals.{outputLength, regionRules, child, refusals, timerRules, nextBlock, proposeRules}
+use Rattle.protocol.specs.Contents.{Contents, none, given, tooLongRule, digestRule, recordDigestRule, rightBefore}
+use Rattle.protocol.specs.Calls.{Replica, begin, timerCore, recordCoreWith, proposeCoreWith, Outcome, outcome, openingCall, _then_}
 use Rattle.protocol.specs.OneCall.{Call, receive, timer, propose, callOn, left, Passes, Handing, HandingTyped, after}
+use Rattle.protocol.proofs.Branch.{by-cases}
 use Rattle.protocol.proofs.call.Regular.{Regular}
 use Rattle.protocol.proofs.call.OneCall.{RegularReplica, regular-regions, regular-passes, coreOf, call-is, reply-refuses, calls-keep, calls-same, opening-accepted}
 
@@ -73,14 +77,45 @@ propose-other : (W : Work) (lead : Leading) (x : List ℕ) → Other 2 (proposeR
 unfolding proposeRules All
 propose-other W lead x = omega arith
 
+-- of contents
+too-long-other : (c : Contents) → Other 2 (tooLongRule c)
+unfolding All
+too-long-other none = tt
+too-long-other (given s) = omega arith
+
+digest-other : (b : Block) (c : Contents) → Other 2 (digestRule b c)
+unfolding All
+digest-other b none = tt
+digest-other b (given s) = omega arith
+
+record-digest-other : (W : Work) (q : Content) (c : Contents) → Other 2 (recordDigestRule W q c)
+unfolding All
+record-digest-other W (vote j v x) c = tt
+record-digest-other W (commit j v x) c = tt
+record-digest-other W (certificate j k) c = tt
+record-digest-other W (timeout t) c = tt
+record-digest-other W (proposal j v x y h k) c = digest-other (child W x y h) c
+record-digest-other W (block j x y h) c = digest-other (child W x y h) c
+record-digest-other W (release j v x h) c = tt
+
+before-other : (k a : ℕ) (new rules : List Rule) → Other k new → Other k rules → Other k (rightBefore a new rules)
+unfolding All rightBefore
+before-other k a new [] p q = p
+before-other k a new (r ∷ rules) p q =
+    by-cases (Other k) (eqb (r .number) a) _ _ (λ e. other-append k new (r ∷ rules) p q) (λ e. (q .0, before-other k a new rules p (q .1)))
+
 -- ---- a regular replica
 core-never : (r : Replica) (room : ℕ) (c : Call) → RegularReplica r → outputLength ≤ room → coreOf r room c ≡ refuses 2 → ⊥
-unfolding coreOf recordCore timerCore proposeCore
-core-never r room (receive bytes) R h e =
+unfolding coreOf recordCoreWith timerCore proposeCoreWith
+core-never r room (receive bytes c) R h e =
     let W = begin r in
-    judge-quiet _ 2 (regionRules W room) _ (regular-regions W room R h) (other-append 2 (shapeRules (n W) bytes) _ (shape-other (n W) bytes) (refusals-other W byList bytes (content bytes))) e
+    let late = before-other 2 10 _ _ (record-digest-other W (content bytes) c) (refusals-other W byList bytes (content bytes)) in
+    judge-quiet _ 2 (regionRules W room) _ (regular-regions W room R h) (other-append 2 (tooLongRule c) _ (too-long-other c) (other-append 2 (shapeRules (n W) bytes) _ (shape-other (n W) bytes) late)) e
 core-never r room (timer v) R h e = judge-quiet _ 2 (regionRules (begin r) room) _ (regular-regions (begin r) room R h) (timer-other (begin r) v) e
-core-never r room (propose x) R h e = judge-quiet _ 2 (regionRules (begin r) room) _ (regular-regions (begin r) room R h) (propose-other (begin r) byList x) e
+core-never r room (propose x c) R h e =
+    let W = begin r in
+    let late = before-other 2 14 _ _ (digest-other (nextBlock W x) c) (propose-other W byList x) in
+    judge-quiet _ 2 (regionRules W room) _ (regular-regions W room R h) (other-append 2 (tooLongRule c) _ (too-long-other c) late) e
 
 pub never-two : (r : Replica) (output : List ℕ) (c : Call) → RegularReplica r → outputLength ≤ length output → callOn byList r output c .reply ≡ refuses 2 → ⊥
 never-two r output c R h e =
@@ -92,10 +127,10 @@ unfolding judge regionRules
 short-judge a W room more R h = rw (le-ltb _ _ (R .memory-long), le-ltb _ _ (R .store-long), lt-ltb _ _ h)
 
 short-core : (r : Replica) (room : ℕ) (c : Call) → RegularReplica r → room < outputLength → coreOf r room c ≡ refuses 2
-unfolding coreOf recordCore timerCore proposeCore
-short-core r room (receive bytes) R h = short-judge _ (begin r) room _ R h
+unfolding coreOf recordCoreWith timerCore proposeCoreWith
+short-core r room (receive bytes c) R h = short-judge _ (begin r) room _ R h
 short-core r room (timer v) R h = short-judge _ (begin r) room _ R h
-short-core r room (propose x) R h = short-judge _ (begin r) room _ R h
+short-core r room (propose x c) R h = short-judge _ (begin r) room _ R h
 
 pub short-two : (r : Replica) (output : List ℕ) (c : Call) → RegularReplica r → length output < outputLength → callOn byList r output c .reply ≡ refuses 2
 unfolding outcome

@@ -1,9 +1,9 @@
 -- A whole call keeps the invariant: an accepted one by its event and the rules, and what it made is what is cut from the bytes that it wrote. Assumes nothing.
-use Prim.Native.Nat.{ℕ, zero, suc, _+_, _≤_}
+use Prim.Native.Nat.{ℕ, zero, suc, _≤_}
 use mathlib.Core.List.{List, [], _∷_, _++_, append-nil}
 use mathlib.Core.Path.{_≡_, refl, ap, subst, _∙_}
 use native.Mathlib.Omega.{arith}
-use lib.ListN.{length, length-append}
+use lib.ListN.{length, drop, length-append}
 use lib.Seq.{take-append-seam, drop-append-seam}
 use Rattle.settings.specs.declared.Settings.{Settings}
 use Rattle.settings.specs.Answer.{accepts}
@@ -21,12 +21,13 @@ use Rattle.protocol.specs.Work.{Work, n, viewNow}
 use Rattle.protocol.specs.Refusals.{regionRules, refusals}
 use Rattle.protocol.specs.Events.{onRecord, onTimer, onPropose}
 use Rattle.protocol.specs.Rules.{settle}
-use Rattle.protocol.specs.Calls.{Replica, begin, recordCore, timerCore, proposeCore}
+use Rattle.protocol.specs.Calls.{Replica, begin, recordCore, timerCore, proposeCore, outcome}
 use Rattle.protocol.specs.OneCall.{Call, receive, timer, propose, CallTyped}
-use Rattle.protocol.specs.OneChain.{calls, stepSays, stepGives, cutRecords}
+use Rattle.protocol.specs.OneChain.{calls, written, stepSays, stepGives, cutRecords}
 use Rattle.protocol.proofs.call.Regular.{Regular}
 use Rattle.protocol.proofs.call.Events.{record-done, timer-done, propose-done}
-use Rattle.protocol.proofs.call.OneCall.{quiet-append, coreOf}
+use Rattle.protocol.proofs.call.Contents.{quiet-append, record-checked, propose-checked}
+use Rattle.protocol.proofs.call.OneCall.{coreOf}
 use Rattle.protocol.proofs.chain.Invariant.{History, R, Invariant}
 use Rattle.protocol.proofs.chain.Progress.{Sound}
 use Rattle.protocol.proofs.chain.Says.{Says}
@@ -59,6 +60,11 @@ cut-joined (r ∷ l) a (suc k) h =
     cut-one k r (joined l) (a .0)
     ∙ ap (λ (m : List (List ℕ)). r ∷ m) (cut-joined l (a .1) k (omega (arith, h, length-append r (joined l), a .0 .0)))
 
+-- what an accepted call wrote
+pub written-out : (r : Replica) (output : List ℕ) (W : Work) → written (outcome r output (accepts W)) ≡ W .out
+unfolding outcome written
+written-out r output W = take-append-seam (W .out) (drop (length (W .out)) output)
+
 -- ---- an accepted core
 module _ (set : Settings) (w : History) (H : HighVoted (R set w)) (i : ℕ) (l₀ : List (List ℕ)) (r : Replica) (K : Invariant set w i (viewNow (begin r)) (begin r) l₀) where
   begin-sound : Sound set w i l₀ (begin r)
@@ -74,9 +80,9 @@ module _ (set : Settings) (w : History) (H : HighVoted (R set w)) (i : ℕ) (l�
   pub core-sound : (c : Call) (room : ℕ) (W : Work) → CallTyped c → coreOf r room c ≡ accepts W → Says w (stepSays (n (begin r)) (calls c)) → All (w .Placed) (stepGives (calls c))
       → Sound set w i l₀ W
   unfolding coreOf recordCore timerCore proposeCore shapeOf
-  core-sound (receive b) room W t e s g =
+  core-sound (receive b c) room W t e s g =
       let W₀ = begin r in
-      let j = off-judge _ _ W .0 e in
+      let j = off-judge _ _ W .0 (record-checked byList r room b c W e .accepted) in
       let p = quiet-append (regionRules W₀ room) _ (j .0) in
       let q = quiet-append (shapeRules (n W₀) b) (refusals W₀ byList b (content b)) (p .1) in
       let ok : shapeOf (n W₀) b ≡ accepts tt = off-judge (shapeRules (n W₀) b) tt tt .1 (q .0, refl) in
@@ -87,8 +93,8 @@ module _ (set : Settings) (w : History) (H : HighVoted (R set w)) (i : ℕ) (l�
       let j = off-judge _ _ W .0 e in
       let p = quiet-append (regionRules W₀ room) _ (j .0) in
       settled (onTimer v W₀) (timer-done W₀ v t typed-regular .regular) (timer-sound set w H i l₀ v W₀ typed-regular begin-sound (p .1)) W (j .1)
-  core-sound (propose x) room W t e s g =
+  core-sound (propose x c) room W t e s g =
       let W₀ = begin r in
-      let j = off-judge _ _ W .0 e in
+      let j = off-judge _ _ W .0 (propose-checked byList r room x c W e .accepted) in
       let p = quiet-append (regionRules W₀ room) _ (j .0) in
       settled (onPropose x W₀) (propose-done W₀ x t (p .1) typed-regular .regular) (propose-sound set w H i l₀ x W₀ typed-regular begin-sound t (p .1)) W (j .1)

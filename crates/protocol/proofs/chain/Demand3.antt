@@ -1,9 +1,9 @@
 -- DEMAND 3 IS PROVED: over any list of entries that meets the premises of specs/OneChain.antt, all releases lie along one chain. Two passes over the run: in the full
 -- history, where every claim is true, the replicas are traces; then the certificates and releases are backed by what the run made. Assumes nothing.
-use Prim.Native.Nat.{ℕ, _+_}
+use Prim.Native.Nat.{ℕ}
 use mathlib.Core.Bool.{Bool, true, false, cond}
 use mathlib.Core.List.{List, [], _∷_, _++_}
-use mathlib.Core.Logic.{_⊎_, inl, inr, ⊎-elim}
+use mathlib.Core.Logic.{inl, inr, ⊎-elim}
 use mathlib.Core.Path.{_≡_, refl, sym, ap, subst, _∙_}
 use native.Mathlib.Omega.{arith}
 use lib.Dec.{T}
@@ -31,8 +31,9 @@ use Rattle.protocol.specs.Work.{Work, n}
 use Rattle.protocol.specs.Refusals.{regionRules, refusals}
 use Rattle.protocol.specs.Calls.{Replica, begin, recordCore, openingCall, Outcome, outcome}
 use Rattle.protocol.specs.OneCall.{Call, receive, timer, propose, CallTyped, callOn}
-use Rattle.protocol.specs.OneChain.{Placement, Step, calls, reopens, Entry, outcomeOf, accepted, makes, recordGives, recordsGive, stepGives, gives, StepTyped, replicaMachine, reads, readOf, Premises, OneChain, Demand3}
-use Rattle.protocol.proofs.call.OneCall.{quiet-append, coreOf, call-is}
+use Rattle.protocol.specs.OneChain.{Placement, Step, calls, reopens, Entry, outcomeOf, accepted, makes, recordGives, recordsGive, stepGives, gives, StepTyped, replicaMachine, reads, readOf, Premises, OnePlacement, OneChain, Demand3}
+use Rattle.protocol.proofs.call.Contents.{quiet-append, record-checked}
+use Rattle.protocol.proofs.call.OneCall.{coreOf, call-is}
 use Rattle.protocol.proofs.chain.Invariant.{Name, History, R, Passes, Sent}
 use Rattle.protocol.proofs.chain.Says.{ActOf, ActIn}
 use Rattle.protocol.proofs.chain.Run.{ReplicaInvariant, call-keeps, opening-establishes}
@@ -83,15 +84,15 @@ proper-named m (release j v x h) p b q z = q
 
 core-named : (s : Replica) (room : ℕ) (c : Call) (W : Work) → CallTyped c → coreOf s room c ≡ accepts W → (b : Placement) → In b (stepGives (calls c)) → b .name ≡ zeroName → ⊥
 unfolding coreOf recordCore shapeOf
-core-named s room (receive r) W t e b p z =
+core-named s room (receive r c) W t e b p z =
     let W₀ = begin s in
-    let j = off-judge _ _ W .0 e in
+    let j = off-judge _ _ W .0 (record-checked byList s room r c W e .accepted) in
     let k = quiet-append (regionRules W₀ room) _ (j .0) in
     let q = quiet-append (shapeRules (n W₀) r) (refusals W₀ byList r (content r)) (k .1) in
     let ok : shapeOf (n W₀) r ≡ accepts tt = off-judge (shapeRules (n W₀) r) tt tt .1 (q .0, refl) in
     proper-named (n W₀) (content r) (read-proper (n W₀) r t ok) b p z
 core-named s room (timer v) W t e b p z = p
-core-named s room (propose x) W t e b p z = p
+core-named s room (propose x c) W t e b p z = p
 
 core-cases : (s : Replica) (output : List ℕ) (c : Call) → CallTyped c → (l : List Placement) (b : Placement) → (In b l → ⊥) → (core : Answer Work) → coreOf s (length output) c ≡ core
     → In b (cond (accepted (outcome s output core .reply)) (stepGives (calls c) ++ l) []) → b .name ≡ zeroName → ⊥
@@ -210,9 +211,9 @@ module _ (set : Settings) (honest : ℕ → Bool) (σ : ℕ → Replica) (run : 
         (λ q. placed-named rest (after replicaMachine τ (a .0) (a .1)) (L ++ tag replicaMachine (a .0) new) e (f .1) (h .1) b q z)
         (in-append b (gives s (a .1)) (placements replicaMachine (after replicaMachine τ (a .0) (a .1)) rest) p)
 
-    one-parent : OneParent (RunCluster .Parent) zeroName
-    one-parent = record {
-      one = λ x y z p q. sym (p .3) ∙ P .one-placement (p .0) (q .0) (p .1) (q .1) (p .2 ∙ sym (q .2)) .0 ∙ q .3;
+    one-parent : OnePlacement set honest σ run → OneParent (RunCluster .Parent) zeroName
+    one-parent N = record {
+      one = λ x y z p q. sym (p .3) ∙ N (p .0) (q .0) (p .1) (q .1) (p .2 ∙ sym (q .2)) .0 ∙ q .3;
       top = λ y p. placed-named run σ [] refl (P .allowed) (P .on-honest) (p .0) (p .1) (p .2);
     }
 
@@ -235,14 +236,14 @@ module _ (set : Settings) (honest : ℕ → Bool) (σ : ℕ → Replica) (run : 
         by-replica replicaMachine honest F B (keeps .Backed) (keeps .backed-step (honest-high replicaMachine set honest reads (λ b. b .name) (λ b. b .parent) σ run zeroName (P .earlier) (P .allowed) keeps))
         run σ [] refl (λ b q. q) (P .earlier) (P .allowed) (keeps .backed-open) i h
 
-    chain : OneChain set honest σ run
-    chain = record {
+    chain : OnePlacement set honest σ run → OneChain set honest σ run
+    chain N = record {
       linked = λ i h. row-linked replicaMachine set honest reads (λ b. b .name) (λ b. b .parent) σ run zeroName (P .earlier) (P .allowed) keeps i (P .numbers i h) h;
       heights = λ i h. at-end-of i h .chained .named;
-      shorter = λ i j hi hj. one-chain replicaMachine set honest reads (λ b. b .name) (λ b. b .parent) σ run zeroName (P .earlier) (P .allowed) keeps (P .enough) one-parent i (P .numbers i hi) hi j (P .numbers j hj) hj;
-      same = λ i j hi hj. one-length replicaMachine set honest reads (λ b. b .name) (λ b. b .parent) σ run zeroName (P .earlier) (P .allowed) keeps (P .enough) one-parent i (P .numbers i hi) hi j (P .numbers j hj) hj;
+      shorter = λ i j hi hj. one-chain replicaMachine set honest reads (λ b. b .name) (λ b. b .parent) σ run zeroName (P .earlier) (P .allowed) keeps (P .enough) (one-parent N) i (P .numbers i hi) hi j (P .numbers j hj) hj;
+      same = λ i j hi hj. one-length replicaMachine set honest reads (λ b. b .name) (λ b. b .parent) σ run zeroName (P .earlier) (P .allowed) keeps (P .enough) (one-parent N) i (P .numbers i hi) hi j (P .numbers j hj) hj;
     }
 
 -- THE THEOREM
 pub demand-3 : Demand3
-demand-3 set leaders honest σ run P = chain set honest σ run leaders P
+demand-3 set leaders honest σ run P N = chain set honest σ run leaders P N

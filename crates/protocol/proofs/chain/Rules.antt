@@ -1,5 +1,5 @@
 -- One turn of the rules keeps the invariant, and so does their run. Assumes nothing.
-use Prim.Native.Nat.{ℕ, _+_, _^_, _≤_, _<_}
+use Prim.Native.Nat.{ℕ, _^_, _≤_, _<_}
 use mathlib.Core.Bool.{Bool, true, false}
 use mathlib.Core.List.{List, [], _∷_, _++_, map, append-assoc}
 use mathlib.Core.Logic.{_⊎_}
@@ -54,6 +54,13 @@ releases-framed : (j v : ℕ) (row : List Block) → All BlockTyped row → All 
 unfolding All
 releases-framed j v [] a = tt
 releases-framed j v (c ∷ row) a = (release-framed j v (c .name) (c .height .0) (a .0 .name .size), releases-framed j v row (a .1))
+
+-- the record formed of kept timeouts is whole, on any content of the memory
+pub formed-framed : (W : Work) → Regular W → (v : ℕ) → Framed (formed (W .memory) v (n W) (own W))
+unfolding formed
+formed-framed W reg v =
+    let row = gathered (W .memory) (timeoutRow v) timeoutLength 0 (n W) in
+    timeouts-framed (own W) v row (omega (arith, reg .few, gathered-le (W .memory) (timeoutRow v) timeoutLength 0 (n W) (n W) (omega arith) (omega (arith, row-fits timeouts v, reg .memory-long, reg .few))))
 
 held-tip : (tip : Block) (store : List Block) (x : Name) → sameBytes (tip .name) x ≡ true → held tip store x .block .name ≡ x
 unfolding held
@@ -194,13 +201,7 @@ module _ (set : Settings) (w : History) (H : HighVoted (R set w)) (i : ℕ) (l�
   block-says : (W : Work) (v : ℕ) (x : Name) → AppliesC v x W → viewOfProgress (certificateOf (blockCertificateBytes (own W) v x (signersFor v W x))) ≡ v
   block-says W v x a = form-view W _ ∙ block-view (own W) v x (signersFor v W x) (ballot-window (viewNow W) v (a .window) .below)
 
-  -- the record formed is whole, and says a certificate that fits, on any content of the memory
-  formed-framed : (W : Work) → Regular W → (v : ℕ) → Framed (formed (W .memory) v (n W) (own W))
-  unfolding formed
-  formed-framed W reg v =
-      let row = gathered (W .memory) (timeoutRow v) timeoutLength 0 (n W) in
-      timeouts-framed (own W) v row (omega (arith, reg .few, gathered-le (W .memory) (timeoutRow v) timeoutLength 0 (n W) (n W) (omega arith) (omega (arith, row-fits timeouts v, reg .memory-long, reg .few))))
-
+  -- it says a certificate that fits, on any content of the memory
   formed-fit : (W : Work) → Regular W → (v : ℕ) → AppliesB v W → CertificateFits (certificateOf (formed (W .memory) v (n W) (own W)))
   formed-fit W reg v a =
       let f = formed-form (W .memory) v (n W) (own W) (reg .typed .memory) (reg .memory-long) (reg .few) (reg .member) (timeout-window (viewNow W) v (a .window) .below) in

@@ -2,13 +2,12 @@
 -- specs/Example.antt, as far as it matters. Assumes nothing.
 use Prim.Native.Nat.{ℕ, _≤_}
 use native.Mathlib.Omega.{arith}
-use mathlib.Core.Path.{_≡_, sym, ap, subst, _∙_}
+use mathlib.Core.Path.{_≡_, refl, sym, ap, subst, _∙_}
 use mathlib.Core.Bool.{Bool, true}
-use mathlib.Core.List.{List, [], _∷_, _++_}
-use lib.ListN.{length, take, drop, length-replicate}
-use lib.Seq.{take-append-seam}
-use Rattle.settings.specs.Answer.{accepts, Rule}
-use Rattle.wire.specs.Content.{Content}
+use mathlib.Core.List.{List}
+use lib.ListN.{length, take, length-replicate}
+use Rattle.settings.specs.Answer.{accepts}
+use Rattle.wire.specs.Content.{Content, content}
 use Rattle.wire.specs.Encode.{joined, encode}
 use Rattle.wire.specs.Fit.{All, Fits, Proper}
 use Rattle.wire.specs.Shape.{shapeRules}
@@ -24,20 +23,18 @@ use Rattle.protocol.specs.Work.{Work, n}
 use Rattle.protocol.specs.Refusals.{outputLength, regionRules, refusals}
 use Rattle.protocol.specs.Events.{onRecord}
 use Rattle.protocol.specs.Applies.{Turns, Done}
-use Rattle.protocol.specs.Calls.{Replica, begin, recordCore, Outcome, outcome, recordCall}
+use Rattle.protocol.specs.Contents.{given, recordDigestRule}
+use Rattle.protocol.specs.Calls.{Replica, begin, recordCore, recordCoreWith, Outcome, outcome, recordCallWith}
 use Rattle.protocol.specs.OneCall.{left}
 use Rattle.protocol.specs.OneChain.{outcomeOf, accepted, written, cutRecords, makes}
-use Rattle.protocol.specs.Example.{six, lentOutput, blockName, handed, leaders}
+use Rattle.protocol.specs.Example.{six, lentOutput, blockContents, blockName, handed, leaders}
 use Rattle.protocol.proofs.call.Proposals as Proposals
 use Rattle.protocol.proofs.call.Events.{eventRoom, record-done}
+use Rattle.protocol.proofs.call.Contents.{quiet-both, checked-record}
 use Rattle.protocol.proofs.call.OneCall.{RegularReplica, regular-regions}
 use Rattle.protocol.proofs.loop.Loop.{loop-ends}
-use Rattle.protocol.proofs.chain.Call.{cut-joined}
+use Rattle.protocol.proofs.chain.Call.{cut-joined, written-out}
 use Rattle.protocol.proofs.example.Rows.{Rows}
-
-quiet-join : (a b : List Rule) → Quiet a → Quiet b → Quiet (a ++ b)
-quiet-join [] b p q = q
-quiet-join (r ∷ a) b p q = (p .0, quiet-join a b (p .1) q)
 
 long-enough : outputLength ≤ length lentOutput
 unfolding lentOutput
@@ -52,13 +49,9 @@ pub record Took (r : Replica) (bytes : List ℕ) (made : List (List ℕ)) (s : R
 abbrev pub replicaOf : Work → Replica
 replicaOf W = record { counters = W .counters; memory = W .memory; store = W .store }
 
--- what an accepted call wrote
-pub written-out : (r : Replica) (output : List ℕ) (W : Work) → written (outcome r output (accepts W)) ≡ W .out
-unfolding outcome written
-written-out r output W = take-append-seam (W .out) (drop (length (W .out)) output)
-
-took : (r : Replica) (bytes : List ℕ) (made : List (List ℕ)) (W : Work) → recordCore byList r (length lentOutput) bytes ≡ accepts W → All Framed made → W .out ≡ joined made → Took r bytes made (replicaOf W)
-unfolding outcomeOf recordCall outcome makes
+took : (r : Replica) (bytes : List ℕ) (made : List (List ℕ)) (W : Work) → recordCoreWith byList r (length lentOutput) bytes (given blockContents) ≡ accepts W → All Framed made → W .out ≡ joined made
+    → Took r bytes made (replicaOf W)
+unfolding outcomeOf recordCallWith outcome makes
 took r bytes made W e f o =
     let cut : cutRecords (length (W .out)) (W .out) ≡ made = ap (λ (s : List ℕ). cutRecords (length s) s) o ∙ cut-joined made f (length (joined made)) (omega arith) in
     let is : outcomeOf r (handed bytes) ≡ outcome r lentOutput (accepts W) = ap (outcome r lentOutput) e in
@@ -68,8 +61,8 @@ took r bytes made W e f o =
       makes = ap (λ (x : Outcome). cutRecords (length (written x)) (written x)) is ∙ ap (λ (s : List ℕ). cutRecords (length s) s) (written-out r lentOutput W) ∙ cut;
     }
 
--- ---- a record that fits, that is as the place "shape" asks, and that no rule refuses
-module _ (r : Replica) (R : RegularReplica r) (c : Content) (f : Fits c) (p : Proper (n (begin r)) c) (q : Quiet (refusals (begin r) byList (encode c) c)) where
+-- ---- a record that fits, that is as the place "shape" asks, and that no rule refuses, nor the rule of its digest
+module _ (r : Replica) (R : RegularReplica r) (c : Content) (f : Fits c) (p : Proper (n (begin r)) c) (q : Quiet (refusals (begin r) byList (encode c) c)) (named : Quiet (recordDigestRule (begin r) c (given blockContents))) where
   shaped : Quiet (shapeRules (n (begin r)) (encode c))
   shaped = quiet-stands (n (begin r)) (encode c) c f p (stands-encode c f)
 
@@ -80,13 +73,14 @@ module _ (r : Replica) (R : RegularReplica r) (c : Content) (f : Fits c) (p : Pr
   pub call-takes : (W : Work) → Turns (onRecord (encode c) c (begin r)) W → Done W → (made : List (List ℕ)) → All Framed made → W .out ≡ joined made → Took r (encode c) made (replicaOf W)
   unfolding recordCore
   call-takes W t d made g o =
-      took r (encode c) made W
-      (rw (read-written c f)
+      let plain : recordCore byList r (length lentOutput) (encode c) ≡ accepts W =
+      rw (read-written c f)
       (off-judge _ _ W .1 (
-        quiet-join (regionRules (begin r) (length lentOutput)) _ (regular-regions (begin r) (length lentOutput) R long-enough) (quiet-join (shapeRules (n (begin r)) (encode c)) (refusals (begin r) byList (encode c) c) shaped q),
+        quiet-both (regionRules (begin r) (length lentOutput)) _ (regular-regions (begin r) (length lentOutput) R long-enough) (quiet-both (shapeRules (n (begin r)) (encode c)) (refusals (begin r) byList (encode c) c) shaped q),
         sym (loop-ends _ W (event-done .regular) t d),
-      )))
-      g o
+      )) in
+      let digest : Quiet (recordDigestRule (begin r) (content (encode c)) (given blockContents)) = rw (read-written c f) named in
+      took r (encode c) made W (checked-record byList r (length lentOutput) (encode c) (given blockContents) W (record { short = (refl, tt); named = digest; accepted = plain })) g o
 
 -- ---- what matters of replica i: its counters, how many blocks it holds and which, and who voted and committed, by its rows
 pub record State (i : ℕ) (c : Counters) (k : ℕ) (held : List Block) (first : ℕ) (A C : ℕ → Bool) (r : Replica) : Type 0 where

@@ -88,10 +88,10 @@ module _ (m : List ℕ) (st : List Block) (settings : settingsOf m ≡ six) (own
   event = takes-certificate acting 60 (lit< tt) 0 (lit< tt) refl
 
   regular-after : Regular after
-  regular-after = subst Regular event (event-done before R certified certificate-fits is-proper not-refused .regular)
+  regular-after = subst Regular event (event-done before R certified certificate-fits is-proper not-refused tt .regular)
 
   still : Still (begin before) after
-  still = subst (Still (begin before)) event (event-done before R certified certificate-fits is-proper not-refused .still)
+  still = subst (Still (begin before)) event (event-done before R certified certificate-fits is-proper not-refused tt .still)
 
   module _ (rows : Rows blockName 1 oneself nobody m) where
     rows-after : Rows blockName 2 oneself oneself (after .memory)
@@ -110,7 +110,7 @@ module _ (m : List ℕ) (st : List Block) (settings : settingsOf m ≡ six) (own
     unfolding joined All sent-on committed
     takes =
         rw certificate-is at
-        (call-takes before R certified certificate-fits is-proper not-refused after (subst (λ (W : Work). Turns W after) (sym event) rest) done (sent-on ∷ committed ∷ [])
+        (call-takes before R certified certificate-fits is-proper not-refused tt after (subst (λ (W : Work). Turns W after) (sym event) rest) done (sent-on ∷ committed ∷ [])
         (block-framed 1 1 blockName 60 (name-is .size), (vote-framed 2 1 1 blockName (name-is .size), tt)) (ap (λ (s : List ℕ). sent-on ++ s) (sym (append-nil committed))))
 
     state-after : (k : ℕ) (held : List Block) → blockCountOf m ≡ k → take k st ≡ held → State 1 afterCertificate k held 2 oneself oneself (replicaOf after)

@@ -17,10 +17,11 @@ use Rattle.wire.proofs.ReadBack.{read-written}
 use Rattle.certificate.specs.Safe.{signs}
 use Rattle.memory.proofs.Bits.{counted, signs-none}
 use Rattle.protocol.specs.Work.{n}
+use Rattle.protocol.specs.Contents.{Contents, given}
 use Rattle.protocol.specs.Calls.{Replica, begin}
 use Rattle.protocol.specs.OneCall.{left}
-use Rattle.protocol.specs.OneChain.{Placement, outcomeOf, says, gives, votesOf, recordGives, recordsGive}
-use Rattle.protocol.specs.Example.{openedAs, blockName, theProposal, voteOf, theCertificate, handed}
+use Rattle.protocol.specs.OneChain.{Placement, outcomeOf, says, gives, votesOf, recordGives, recordsGive, beside, takes}
+use Rattle.protocol.specs.Example.{openedAs, blockContents, blockName, theProposal, voteOf, theCertificate, handed}
 use Rattle.protocol.proofs.example.Rows.{nobody, and-also}
 use Rattle.protocol.proofs.example.Calls.{State, Step}
 use Rattle.protocol.proofs.example.Proposal.{name-is, theBlock, opened-state, proposal-fits, afterVote, proposal-step}
@@ -150,6 +151,26 @@ vote-gives r j h s = gives-is r _ (vote-fits j h) [] s
 pub release-gives : gives r₆ (handed (voteOf 0)) ≡ []
 unfolding encode released
 release-gives = gives-is r₆ _ (vote-fits 0 (lit< tt)) (released ∷ []) v₀ ∙ rw (read-written _ release-fits)
+
+-- ---- the blocks that were taken: one alone, with its contents
+abbrev pub theTaken : Placement × Contents
+theTaken = (thePlacement, given blockContents)
+
+takes-is : (r : Replica) (c : Content) → Fits c → {P : Replica → Type 0} (made : List (List ℕ)) → Step r (encode c) made P → takes r (handed (encode c)) ≡ beside (given blockContents) (recordGives c)
+unfolding takes
+takes-is r c f made s = rw (s .accepts, read-written c f)
+
+pub proposal-takes : (i : ℕ) → Proposed i → takes (openedAs i) (handed theProposal) ≡ theTaken ∷ []
+unfolding encode certificateBytes
+proposal-takes i s = takes-is (openedAs i) _ proposal-fits (voteOf i ∷ []) s
+
+pub certificate-takes : takes r₁ (handed theCertificate) ≡ []
+unfolding encode certificateBytes
+certificate-takes = takes-is r₁ _ certificate-fits (sent-on ∷ committed ∷ []) c₁
+
+pub vote-takes : (r : Replica) (j : ℕ) → j < 6 → {P : Replica → Type 0} (made : List (List ℕ)) → Step r (voteOf j) made P → takes r (handed (voteOf j)) ≡ []
+unfolding encode
+vote-takes r j h made s = takes-is r _ (vote-fits j h) made s
 
 -- ---- what is handed over, is bytes
 pub proposal-bytes : IsBytes theProposal

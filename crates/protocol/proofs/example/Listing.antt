@@ -34,8 +34,8 @@ use Rattle.protocol.specs.Refusals.{storeLength, outputLength, regionRul
 use Rattle.protocol.specs.Applies.{Done, rest}
 use Rattle.protocol.specs.Calls.{Replica, begin, timerCore, proposeCore, Outcome, outcome, timerCall, proposeCall, openingCall, openedMemory}
 use Rattle.protocol.specs.OneCall.{left}
-use Rattle.protocol.specs.Example.{six, blockName}
-use Rattle.protocol.specs.Listing.{linesOf, printed}
+use Rattle.protocol.specs.Example.{six}
+use Rattle.protocol.specs.Listing.{listedName, linesOf, printed}
 use Rattle.protocol.proofs.call.Regular.{Regular}
 use Rattle.protocol.proofs.call.Actions.{own-timeout-fits, timeout-regular}
 use Rattle.protocol.proofs.call.Opening.{Openable, openedWork, opened-settings, opened-own, opened-leaders, opened-none, opened-regular, opening-takes}
@@ -176,15 +176,15 @@ module _ (lent : Replica) (b : IsBytes (lent .memory)) (typed : All BlockTyped (
 
   -- propose: replica 0 leads view 1
   module _ (a : List ℕ) (room : outputLength ≤ length a) where
-    not-leader : (A : Type 0) (x : A) → judge (proposeRules (begin r₁) byList blockName) x ≡ refuses 15
+    not-leader : (A : Type 0) (x : A) → judge (proposeRules (begin r₁) byList listedName) x ≡ refuses 15
     unfolding judge proposeRules opened W₁ sendTimeout keepTimeout timing
     not-leader A x = rw (first-leads, own₁)
 
-    fourth : proposeCall byList r₁ a blockName ≡ outcome r₁ a (refuses 15)
+    fourth : proposeCall byList r₁ a listedName ≡ outcome r₁ a (refuses 15)
     unfolding proposeCall proposeCore
     fourth =
         ap (outcome r₁ a)
-        (judge-past _ (regionRules (begin r₁) (length a)) (proposeRules (begin r₁) byList blockName) (regular-regions (begin r₁) (length a) (begin-regular W₁ R₁) room) ∙ not-leader Work _)
+        (judge-past _ (regionRules (begin r₁) (length a)) (proposeRules (begin r₁) byList listedName) (regular-regions (begin r₁) (length a) (begin-regular W₁ R₁) room) ∙ not-leader Work _)
 
   -- THE LISTING: the opening is accepted, and the calls after it print what 01 says
   pub listing : (a b c d : List ℕ) → outputLength ≤ length a → outputLength ≤ length b → outputLength ≤ length c → outputLength ≤ length d

@@ -1,5 +1,6 @@
--- THE PREMISES OF DEMAND 3 CAN BE MET, with a row that is not empty: the run of specs/Example.antt meets every one of them (`example-premises`), replica 1
--- releases the block at height 1 in it (`example-row`), and so its rows are one chain (`example-chain`); in one,
+-- THE PREMISES OF DEMAND 3 CAN BE MET, with a row that is not empty: the run of specs/Example.antt meets every one of them (`example-premises`), that on names in both
+-- forms (`example-names`, `example-digests`), replica 1
+-- releases the block at height 1 in it (`example-row`), and so its rows are one chain (`example-chain`, `example-checked`); in one,
 -- `premises-met`. Assumes nothing.
 use Prim.Native.Nat.{ℕ, _<_}
 use native.Mathlib.Omega.{arith}
@@ -11,6 +12,7 @@ use lib.Dec.{T, leb, leb→le, lit<, lit≤}
 use lib.ListN.{length}
 use Rattle.settings.specs.declared.Settings.{Settings}
 use Rattle.codec.specs.Bytes.{IsBytes}
+use Rattle.codec.specs.Names.{zeroName}
 use Rattle.wire.specs.Content.{Content}
 use Rattle.wire.specs.Encode.{encode, certificateBytes}
 use Rattle.wire.specs.Fit.{All, Fits}
@@ -19,13 +21,14 @@ use Rattle.safety.specs.Lists.{In}
 use Rattle.safety.specs.Count.{count}
 use Rattle.safety.specs.Run.{AllAllowed, Earlier, Read, is-vote, is-commit, is-timeout, is-release, is-other, released as rowIn}
 use Rattle.protocol.specs.Calls.{Replica}
-use Rattle.protocol.specs.OneChain.{Placement, Entry, replicaMachine, readOf, reads, Premises, OneChain, placed, rowOf}
-use Rattle.protocol.specs.Example.{six, honestOnes, openedAs, blockName, theProposal, voteOf, theCertificate, entries, leaders}
+use Rattle.protocol.specs.OneChain.{Placement, Entry, Triple, replicaMachine, readOf, reads, Premises, OnePlacement, OneDigest, OneChain, placed, taken, rowOf}
+use Rattle.protocol.specs.Example.{six, honestOnes, openedAs, blockContents, blockName, theProposal, voteOf, theCertificate, entries, leaders}
 use Rattle.protocol.proofs.chain.Demand3.{demand-3}
+use Rattle.protocol.proofs.chain.Checked.{demand-3-checked}
 use Rattle.protocol.proofs.example.Proposal.{is-opened}
 use Rattle.protocol.proofs.example.Certificate.{sent-on, committed}
 use Rattle.protocol.proofs.example.Votes.{vote-fits, released}
-use Rattle.protocol.proofs.example.Entries.{thePlacement, r₂, r₃, r₄, r₅, r₆, p₁, p₂, p₃, p₄, p₅, c₁, v₂, v₃, v₄, v₅, v₀, proposal-says, vote-says, certificate-says, sent-fits, commit-fits, release-fits, proposal-gives, certificate-gives, vote-gives, release-gives, proposal-bytes, certificate-bytes, vote-bytes}
+use Rattle.protocol.proofs.example.Entries.{thePlacement, theTaken, r₂, r₃, r₄, r₅, r₆, p₁, p₂, p₃, p₄, p₅, c₁, v₂, v₃, v₄, v₅, v₀, proposal-says, vote-says, certificate-says, sent-fits, commit-fits, release-fits, proposal-gives, certificate-gives, vote-gives, release-gives, proposal-takes, certificate-takes, vote-takes, proposal-bytes, certificate-bytes, vote-bytes}
 
 -- ---- one placement
 placed-are : placed six honestOnes openedAs entries ≡ thePlacement ∷ thePlacement ∷ thePlacement ∷ thePlacement ∷ thePlacement ∷ []
@@ -117,11 +120,46 @@ example-premises =
       on-honest = (tt, (tt, (tt, (tt, (tt, (tt, (tt, (tt, (tt, (tt, (tt, tt)))))))))));
       allowed = all-allowed;
       earlier = made-earlier;
-      one-placement = λ a b p q e.
-          let α = only-the-one a p in
-          let β = only-the-one b q in
-          (ap (λ (x : Placement). x .parent) α ∙ sym (ap (λ (x : Placement). x .parent) β), ap (λ (x : Placement). x .height) α ∙ sym (ap (λ (x : Placement). x .height) β));
     }
+
+-- the premise on names, in 01's form
+pub example-names : OnePlacement six honestOnes openedAs entries
+example-names a b p q e =
+    let α = only-the-one a p in
+    let β = only-the-one b q in
+    (ap (λ (x : Placement). x .parent) α ∙ sym (ap (λ (x : Placement). x .parent) β), ap (λ (x : Placement). x .height) α ∙ sym (ap (λ (x : Placement). x .height) β))
+
+-- and in 02's: every block was taken with its contents, and there is one triple alone
+taken-are : taken six honestOnes openedAs entries ≡ theTaken ∷ theTaken ∷ theTaken ∷ theTaken ∷ theTaken ∷ []
+taken-are =
+    rw (
+      proposal-takes 1 p₁,
+      proposal-takes 2 p₂,
+      proposal-takes 3 p₃,
+      proposal-takes 4 p₄,
+      proposal-takes 5 p₅,
+      certificate-takes,
+      vote-takes r₂ 2 (lit< tt) [] v₂,
+      vote-takes r₃ 3 (lit< tt) [] v₃,
+      vote-takes r₄ 4 (lit< tt) [] v₄,
+      vote-takes r₅ 5 (lit< tt) [] v₅,
+      vote-takes r₆ 0 (lit< tt) (released ∷ []) v₀,
+    )
+
+pub example-digests : OneDigest six honestOnes openedAs entries
+unfolding All
+example-digests = record { checked = rw taken-are (tt, (tt, (tt, (tt, (tt, tt))))); one-triple = λ a b p q e. only a (rw taken-are at p) ∙ sym (only b (rw taken-are at q)) }
+  where
+    theTriple : Triple
+    theTriple = record { parent = zeroName; height = 1; contents = blockContents }
+
+    only : (a : Triple) → In a (theTriple ∷ theTriple ∷ theTriple ∷ theTriple ∷ theTriple ∷ []) → a ≡ theTriple
+    only a (inl e) = e
+    only a (inr (inl e)) = e
+    only a (inr (inr (inl e))) = e
+    only a (inr (inr (inr (inl e)))) = e
+    only a (inr (inr (inr (inr (inl e))))) = e
+    only a (inr (inr (inr (inr (inr e))))) = absurd e
 
 -- ---- THE ROW: replica 1 made its vote, the certificate sent on, its commit and its release
 -- one record more
@@ -152,11 +190,16 @@ pub example-row : rowOf six honestOnes openedAs entries 1 ≡ (blockName, 1) ∷
 example-row = rw (p₁ .makes, p₂ .makes, p₃ .makes, p₄ .makes, p₅ .makes, c₁ .makes, v₂ .makes, v₃ .makes, v₄ .makes, v₅ .makes, v₀ .makes) its-row
 
 pub example-chain : OneChain six honestOnes openedAs entries
-example-chain = demand-3 six leaders honestOnes openedAs entries example-premises
+example-chain = demand-3 six leaders honestOnes openedAs entries example-premises example-names
 
--- in one: settings, honest replicas, opened states, entries and leader list that meet the premises, and an honest replica whose row is not empty
+pub example-checked : OneChain six honestOnes openedAs entries
+example-checked = demand-3-checked six leaders honestOnes openedAs entries example-premises example-digests
+
+-- in one: settings, honest replicas, opened states, entries and leader list that meet the premises, that on names in both forms, and an honest replica whose row is not empty
 abbrev pub PremisesMet : Type 0
-PremisesMet = (set : Settings) × (honest : ℕ → Bool) × (σ : ℕ → Replica) × (run : List (ℕ × Entry)) × (leaders : List ℕ) × Premises set honest σ run leaders × (i : ℕ) × T (honest i) × (rowOf set honest σ run i ≡ [] → ⊥)
+PremisesMet =
+    (set : Settings) × (honest : ℕ → Bool) × (σ : ℕ → Replica) × (run : List (ℕ × Entry)) × (leaders : List ℕ) × Premises set honest σ run leaders × OnePlacement set honest σ run
+    × OneDigest set honest σ run × (i : ℕ) × T (honest i) × (rowOf set honest σ run i ≡ [] → ⊥)
 
 pub premises-met : PremisesMet
-premises-met = (six, honestOnes, openedAs, entries, leaders, example-premises, 1, tt, λ e. let z : _≡_ {A = ℕ} 1 0 = ap length (sym example-row ∙ e) in omega arith)
+premises-met = (six, honestOnes, openedAs, entries, leaders, example-premises, example-names, example-digests, 1, tt, λ e. let z : _≡_ {A = ℕ} 1 0 = ap length (sym example-row ∙ e) in omega arith)

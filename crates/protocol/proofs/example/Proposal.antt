@@ -11,7 +11,12 @@ use lib.ListN.{length, take, set, replicate, length-replicate}
 use Rattle.settings.specs.Opening.{hasFrom, badLeaders}
 use Rattle.codec.specs.Bytes.{IsBytes}
 use Rattle.codec.specs.Names.{nameLength, sameBytes, zeroName}
-use Rattle.codec.proofs.Order.{same-ne}
+use Rattle.codec.proofs.Order.{same-refl, same-ne}
+use Rattle.digest.specs.Sha256.{beBytes}
+use Rattle.digest.specs.Name.{preimage, nameOf}
+use Rattle.digest.proofs.Padding.{digest-is-name}
+use Rattle.digest.proofs.Names.{gives-name}
+use Rattle.digest.proofs.Examples.{first-name}
 use Rattle.wire.specs.Fields.{progressOf}
 use Rattle.wire.specs.Content.{Certificate, byBlock, certificateOf, Content, proposal}
 use Rattle.wire.specs.Encode.{certificateBytes, encode, joined}
@@ -34,9 +39,10 @@ use Rattle.protocol.specs.Typed.{BlockTyped}
 use Rattle.protocol.specs.Refusals.{storeLength, noRoom, refusals}
 use Rattle.protocol.specs.Events.{onRecord}
 use Rattle.protocol.specs.Applies.{Done, Turns, rest}
+use Rattle.protocol.specs.Contents.{given, recordDigestRule}
 use Rattle.protocol.specs.Calls.{Replica, begin}
 use Rattle.protocol.specs.OneChain.{Opened}
-use Rattle.protocol.specs.Example.{six, lentMemory, lentStore, openedAs, blockName, theProposal, voteOf, leaders}
+use Rattle.protocol.specs.Example.{six, lentMemory, lentStore, openedAs, blockContents, blockName, theProposal, voteOf, leaders}
 use Rattle.protocol.proofs.call.Typing.{zero-is-name}
 use Rattle.protocol.proofs.call.Opening.{Openable, openedWork, opened-settings, opened-own, opened-leaders, opened-count, opened-none, opened-regular, opening-takes}
 use Rattle.protocol.proofs.call.Regular.{Regular, Still}
@@ -48,21 +54,20 @@ use Rattle.protocol.proofs.example.FirstView.{Acting, onGenesis, votedF
 use Rattle.protocol.proofs.example.Calls.{Took, replicaOf, event-done, call-takes, State, Step, step}
 
 -- ---- the block and its name
-bytes-ones : (n : ℕ) → IsBytes (replicate n 1)
-bytes-ones zero i = lit< tt
-bytes-ones (suc n) zero = lit< tt
-bytes-ones (suc n) (suc i) = bytes-ones n i
+pub is-digest : nameOf zeroName 1 blockContents ≡ blockName
+unfolding blockName
+is-digest = let e = sym (gives-name zeroName 1 blockContents (lit≤ tt)) ∙ first-name in let z : nameOf zeroName 1 blockContents ≡ beBytes nameLength 0x64356fb03f8d51a5e1241a72375db2444558064f54b6a925e2a0f715e0603cfe = cc in z
 
 pub name-is : IsName blockName
-unfolding blockName
-name-is = record { size = refl; bytes = bytes-ones nameLength }
+unfolding nameOf
+name-is = let d = digest-is-name (preimage zeroName 1 blockContents) in subst IsName is-digest (record { size = d .0; bytes = d .1 })
 
 pub name-not-zero : sameBytes blockName zeroName ≡ false
-unfolding blockName sameBytes
+unfolding blockName beBytes sameBytes
 name-not-zero = refl
 
 pub zero-not-name : sameBytes zeroName blockName ≡ false
-unfolding blockName sameBytes
+unfolding blockName beBytes sameBytes
 zero-not-name = refl
 
 abbrev pub theBlock : Block
@@ -178,6 +183,9 @@ module _ (i : ℕ) (low : 1 ≤ i) (high : i < 6) (m : List ℕ) (st : List Bloc
   not-refused =
       (rw (settings, own, ne-eqb 0 i (omega arith), first-leads), (refl, (refl, (refl, (refl, (rw (zero-not-name, count), (refl, (refl, (has-room, tt)))))))))
 
+  its-name : Quiet (recordDigestRule (begin before) proposed (given blockContents))
+  its-name = (ap not (ap (sameBytes blockName) is-digest ∙ same-refl blockName), tt)
+
   abbrev after : Work
   after = voted blockName i (begin before)
 
@@ -193,10 +201,10 @@ module _ (i : ℕ) (low : 1 ≤ i) (high : i < 6) (m : List ℕ) (st : List Bloc
     rows-after = rows-voted acting rows
 
     regular-after : Regular after
-    regular-after = subst Regular event (event-done before R proposed proposal-fits is-proper not-refused .regular)
+    regular-after = subst Regular event (event-done before R proposed proposal-fits is-proper not-refused its-name .regular)
 
     still : Still (begin before) after
-    still = subst (Still (begin before)) event (event-done before R proposed proposal-fits is-proper not-refused .still)
+    still = subst (Still (begin before)) event (event-done before R proposed proposal-fits is-proper not-refused its-name .still)
 
     facts : Facts six blockName 1 (and-also i nobody) nobody after
     unfolding votedFor voting opened
@@ -212,7 +220,7 @@ module _ (i : ℕ) (low : 1 ≤ i) (high : i < 6) (m : List ℕ) (st : List Bloc
     unfolding joined All
     takes =
         rw proposal-is at
-        (call-takes before R proposed proposal-fits is-proper not-refused after (subst (λ (W : Work). Turns W after) (sym event) rest) done (voteOf i ∷ [])
+        (call-takes before R proposed proposal-fits is-proper not-refused its-name after (subst (λ (W : Work). Turns W after) (sym event) rest) done (voteOf i ∷ [])
         (vote-framed 1 i 1 blockName (name-is .size), tt) (sym (append-nil (voteOf i))))
 
     state-after : State i afterVote 1 (theBlock ∷ []) 1 (and-also i nobody) nobody (replicaOf after)

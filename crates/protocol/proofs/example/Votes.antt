@@ -76,10 +76,10 @@ module _ (j : ℕ) (low : j < 6) (other : j ≡ 1 → ⊥) (A : ℕ → Bool) (n
   event = refl
 
   regular-after : Regular after
-  regular-after = subst Regular event (event-done before R its (vote-fits j low) is-proper not-refused .regular)
+  regular-after = subst Regular event (event-done before R its (vote-fits j low) is-proper not-refused tt .regular)
 
   still : Still (begin before) after
-  still = subst (Still (begin before)) event (event-done before R its (vote-fits j low) is-proper not-refused .still)
+  still = subst (Still (begin before)) event (event-done before R its (vote-fits j low) is-proper not-refused tt .still)
 
   rows-after : Rows blockName 2 (and-also j A) oneself with
   unfolding with
@@ -115,7 +115,7 @@ module _ (j : ℕ) (low : j < 6) (other : j ≡ 1 → ⊥) (A : ℕ → Bool) (n
 
     takes : Took before (voteOf j) [] (replicaOf after)
     unfolding after joined All encode
-    takes = call-takes before R its (vote-fits j low) is-proper not-refused after (subst (λ (W : Work). Turns W after) (sym event) rest) done [] tt refl
+    takes = call-takes before R its (vote-fits j low) is-proper not-refused tt after (subst (λ (W : Work). Turns W after) (sym event) rest) done [] tt refl
 
     state-after : State 1 afterCertificate 1 (theBlock ∷ []) 2 (and-also j A) oneself (replicaOf after)
     unfolding after
@@ -153,7 +153,7 @@ module _ (j : ℕ) (low : j < 6) (other : j ≡ 1 → ⊥) (A : ℕ → Bool) (n
     releases-it : Took before (voteOf j) (released ∷ []) (replicaOf end)
     unfolding joined All encode released
     releases-it =
-        call-takes before R its (vote-fits j low) is-proper not-refused end (subst (λ (W : Work). Turns W end) (sym event) turns) done-end (released ∷ [])
+        call-takes before R its (vote-fits j low) is-proper not-refused tt end (subst (λ (W : Work). Turns W end) (sym event) turns) done-end (released ∷ [])
         (release-framed 1 1 blockName 1 (name-is .size), tt) writes
 
 -- A VOTE, handed to replica 1 that is locked in view 2: it is kept

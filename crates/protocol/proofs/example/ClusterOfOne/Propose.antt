@@ -2,8 +2,9 @@
 -- rule D releases the block. Assumes nothing.
 use Prim.Native.Nat.{ℕ, _≤_}
 use mathlib.Core.Path.{_≡_, refl, sym, ap, subst, _∙_}
-use mathlib.Core.Bool.{Bool, false}
+use mathlib.Core.Bool.{Bool, false, not}
 use mathlib.Core.List.{List, [], _∷_, append-assoc}
+use borrow.Author.Tests.{le-ltb}
 use lib.Dec.{lit<, lit≤}
 use lib.ListN.{length, take, length-append}
 use Rattle.settings.specs.declared.Settings.{Settings}
@@ -11,6 +12,7 @@ use Rattle.settings.specs.Quorum.{replicas}
 use Rattle.settings.specs.Answer.{accepts}
 use Rattle.codec.specs.Names.{sameBytes, zeroName}
 use Rattle.codec.proofs.Order.{ne-same, same-refl}
+use Rattle.digest.specs.Name.{nameOf, longestContents}
 use Rattle.wire.specs.Content.{byBlock, certificateOf}
 use Rattle.wire.specs.Encode.{blockCertificateBytes, proposalBytes, joined}
 use Rattle.wire.specs.Fit.{IsName}
@@ -26,24 +28,26 @@ use Rattle.memory.specs.Leaders.{byList}
 use Rattle.memory.proofs.Bits.{counted}
 use Rattle.counters.specs.Counters.{opened, certificateOf as certificateFrom, locksOf, voting, releasing}
 use Rattle.protocol.specs.Work.{Work, n, blocks, send, release}
-use Rattle.protocol.specs.Refusals.{outputLength, regionRules, proposeRules}
+use Rattle.protocol.specs.Refusals.{outputLength, regionRules, nextBlock, proposeRules}
 use Rattle.protocol.specs.Events.{onPropose}
 use Rattle.protocol.specs.Applies.{Turn, Turns, turn, rest, runC, runD, signersFor}
-use Rattle.protocol.specs.Calls.{Replica, begin, proposeCore, outcome, proposeCall}
+use Rattle.protocol.specs.Contents.{given, digestRule}
+use Rattle.protocol.specs.Calls.{Replica, begin, proposeCore, outcome, proposeCall, proposeCallWith}
 use Rattle.protocol.specs.ClusterOfOne.{one, decided, Decides}
 use Rattle.protocol.proofs.call.Typing.{zero-is-name}
 use Rattle.protocol.proofs.call.Regular.{Regular, Still, send-regular}
 use Rattle.protocol.proofs.call.Certificates.{block-form}
 use Rattle.protocol.proofs.call.Rules.{progress-regular}
 use Rattle.protocol.proofs.call.Events.{propose-done}
+use Rattle.protocol.proofs.call.Contents.{checked-propose}
 use Rattle.protocol.proofs.call.Regions.{judge-past}
 use Rattle.protocol.proofs.call.OneCall.{regular-regions}
 use Rattle.protocol.proofs.loop.Formed.{block-read}
 use Rattle.protocol.proofs.loop.Loop.{loop-ends}
+use Rattle.protocol.proofs.chain.Call.{written-out}
 use Rattle.protocol.proofs.example.Rows.{nobody, and-also, rows-none}
 use Rattle.protocol.proofs.example.Applies.{Facts, turn-C}
 use Rattle.protocol.proofs.example.FirstView.{Acting, Holding, onGenesis, votedFor, lockedOn, voted, locked, takes-proposal, rows-voted, count-voted, held-voted, takes-certificate, rows-locked, count-locked, found-it, release-turn, released-out, released-done}
-use Rattle.protocol.proofs.example.Calls.{written-out}
 use Rattle.protocol.proofs.example.ClusterOfOne.Start.{openedOver, Start}
 
 abbrev alone : ℕ → Bool
@@ -149,12 +153,11 @@ module _ (x : List ℕ) (name : IsName x) (proper : x ≡ zeroName → ⊥) (m :
   unfolding W₃ counted
   turns = turn turn-to-lock (turn (release-turn holding facts₂ (lit≤ tt)) rest)
 
-  core : proposeCall byList r output x ≡ outcome r output (accepts W₃)
-  unfolding proposeCall proposeCore W₃
+  core : proposeCore byList r (length output) x ≡ accepts W₃
+  unfolding proposeCore W₃
   core =
-      ap (outcome r output)
-      (judge-past _ (regionRules (begin r) (length output)) (proposeRules (begin r) byList x) (regular-regions (begin r) (length output) (S .regular) room)
-      ∙ off-judge _ _ _ .1 (not-refused, rw event (sym (loop-ends W₁ W₃ (next₁ .0) turns (released-done holding facts₂)))))
+      judge-past _ (regionRules (begin r) (length output)) (proposeRules (begin r) byList x) (regular-regions (begin r) (length output) (S .regular) room)
+      ∙ off-judge _ _ _ .1 (not-refused, rw event (sym (loop-ends W₁ W₃ (next₁ .0) turns (released-done holding facts₂))))
 
   all-written : W₃ .out ≡ joined (decided x)
   unfolding W₃ joined
@@ -164,8 +167,22 @@ module _ (x : List ℕ) (name : IsName x) (proper : x ≡ zeroName → ⊥) (m :
   unfolding joined
   size = simp (length-append, length-proposal x name zeroName zero-is-name, length-blockCertificate zeroName zero-is-name, length-blockCertificate x name, length-vote x name, length-release x name)
 
-  pub decides-alone : Decides x (proposeCall byList r output x)
+  decides-with : Decides x (outcome r output (accepts W₃))
   unfolding outcome W₃ release releasing lockedOn
-  decides-alone =
+  decides-with =
       let b = found-it holding in
-      rw core (record { reply = ap (λ (s : List ℕ). accepts (length s)) all-written ∙ ap accepts size; writes = written-out r output W₃ ∙ all-written; view = refl; tip = rw b; height = rw b })
+      record { reply = ap (λ (s : List ℕ). accepts (length s)) all-written ∙ ap accepts size; writes = written-out r output W₃ ∙ all-written; view = refl; tip = rw b; height = rw b }
+
+  pub decides-alone : Decides x (proposeCall byList r output x)
+  unfolding proposeCall
+  decides-alone = rw core decides-with
+
+  -- with contents whose digest the name is, behind genesis
+  named : (s : List ℕ) → x ≡ nameOf zeroName 1 s → Quiet (digestRule (nextBlock (begin r) x) (given s))
+  unfolding opened safeCertificate held sameBytes
+  named s e = (rw genesis-read (ap not (ap (sameBytes x) (sym e) ∙ same-refl x)), tt)
+
+  pub decides-checked : (s : List ℕ) → length s ≤ longestContents → x ≡ nameOf zeroName 1 s → Decides x (proposeCallWith byList r output x (given s))
+  unfolding proposeCallWith
+  decides-checked s short e =
+      rw (checked-propose byList r (length output) x (given s) W₃ (record { short = (le-ltb longestContents (length s) short, tt); named = named s e; accepted = core })) decides-with

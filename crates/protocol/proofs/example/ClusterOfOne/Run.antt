@@ -1,5 +1,5 @@
 -- The cluster of one: the run of the first propose alone meets the premises of demand 3, and its row is the block. Assumes nothing.
-use Prim.Native.Nat.{ℕ, _≤_}
+use Prim.Native.Nat.{ℕ}
 use native.Mathlib.Omega.{arith}
 use mathlib.Core.Path.{_≡_, sym, ap, subst, _∙_}
 use mathlib.Core.Logic.{inl, inr}
@@ -17,9 +17,11 @@ use Rattle.safety.specs.Count.{count}
 use Rattle.safety.specs.Run.{released}
 use Rattle.memory.specs.Leaders.{byList}
 use Rattle.protocol.specs.Typed.{CountersTyped}
-use Rattle.protocol.specs.Calls.{Replica, proposeCall}
+use Rattle.protocol.specs.Refusals.{nextBlock}
+use Rattle.protocol.specs.Contents.{Contents, given}
+use Rattle.protocol.specs.Calls.{Replica, begin, proposeCallWith}
 use Rattle.protocol.specs.OneCall.{propose}
-use Rattle.protocol.specs.OneChain.{Placement, Entry, calls, outcomeOf, makes, says, recordsGive, gives, reads, Opened, placed}
+use Rattle.protocol.specs.OneChain.{Placement, Entry, calls, outcomeOf, makes, says, recordsGive, gives, takes, Triple, reads, Opened, placed, OneDigest}
 use Rattle.protocol.specs.ClusterOfOne.{one, Alone, openedAlone, decided, Decides, itself, proposes, Releases}
 use Rattle.protocol.proofs.call.Typing.{zero-is-name}
 use Rattle.protocol.proofs.call.Opening.{openedWork, opening-takes}
@@ -85,9 +87,9 @@ module _ (x : List ℕ) (name : IsName x) where
       row-with proposed proposed-fits (encode voted ∷ encode certified ∷ encode committed ∷ encode releasing ∷ []) ∙ row-with voted voted-fits (encode certified ∷ encode committed ∷ encode releasing ∷ [])
       ∙ row-with certified certified-fits (encode committed ∷ encode releasing ∷ []) ∙ row-with committed committed-fits (encode releasing ∷ []) ∙ row-with releasing releasing-fits []
 
--- ---- the run
-module _ (lent : Replica) (leaders output x : List ℕ) (alone : Alone lent leaders) (typed : CountersTyped (lent .counters)) (name : IsName x)
-    (decides : Decides x (proposeCall byList (openedAlone lent leaders) output x)) where
+-- ---- the run, with contents or without, in which that propose answers as it does without
+module _ (lent : Replica) (leaders output x : List ℕ) (c : Contents) (alone : Alone lent leaders) (typed : CountersTyped (lent .counters)) (name : IsName x)
+    (decides : Decides x (proposeCallWith byList (openedAlone lent leaders) output x c)) where
   abbrev r : Replica
   r = openedAlone lent leaders
 
@@ -95,18 +97,18 @@ module _ (lent : Replica) (leaders output x : List ℕ) (alone : Alone lent lead
   σ i = r
 
   abbrev entry : Entry
-  entry = record { output = output; step = calls (propose x) }
+  entry = record { output = output; step = calls (propose x c) }
 
   made : makes r entry ≡ decided x
   unfolding makes outcomeOf
   made = rw (decides .writes) (cut-joined (decided x) (framed x name) (length (joined (decided x))) (omega arith))
 
-  given : gives r entry ≡ thePlacement x name ∷ []
+  gives-it : gives r entry ≡ thePlacement x name ∷ []
   unfolding gives outcomeOf
-  given = rw (decides .reply, made) (decided-give x name)
+  gives-it = rw (decides .reply, made) (decided-give x name)
 
-  only-one : (b : Placement) → In b (placed one itself σ (proposes output x)) → b ≡ thePlacement x name
-  only-one b p = go (rw given at p)
+  only-one : (b : Placement) → In b (placed one itself σ (proposes output x c)) → b ≡ thePlacement x name
+  only-one b p = go (rw gives-it at p)
     where
       go : In b (thePlacement x name ∷ []) → b ≡ thePlacement x name
       go (inl h) = h
@@ -124,7 +126,7 @@ module _ (lent : Replica) (leaders output x : List ℕ) (alone : Alone lent lead
         leaves = opening-is lent leaders alone;
       }
 
-  pub run-alone : Releases lent leaders output x
+  pub run-alone : Releases lent leaders output x c
   unfolding All count says
   run-alone =
       record {
@@ -136,10 +138,26 @@ module _ (lent : Replica) (leaders output x : List ℕ) (alone : Alone lent lead
               on-honest = (tt, tt);
               allowed = ((name, tt), tt);
               earlier = (λ h. tt, tt);
-              one-placement = λ a b p q h.
-                  let α = only-one a p in
-                  let β = only-one b q in
-                  (ap (λ (y : Placement). y .parent) (α ∙ sym β), ap (λ (y : Placement). y .height) (α ∙ sym β));
             };
+        names = λ a b p q h.
+            let α = only-one a p in
+            let β = only-one b q in
+            (ap (λ (y : Placement). y .parent) (α ∙ sym β), ap (λ (y : Placement). y .height) (α ∙ sym β));
         row = rw made (decided-row x name);
       }
+
+  -- with contents there is one triple alone
+  pub one-digest-alone : (s : List ℕ) → c ≡ given s → OneDigest one itself σ (proposes output x c)
+  unfolding All takes outcomeOf
+  one-digest-alone s e =
+      record {
+        checked = rw (decides .reply, e) (tt, tt);
+        one-triple = λ a b p q h. only a (rw (decides .reply, e) at p) ∙ sym (only b (rw (decides .reply, e) at q));
+      }
+    where
+      theTriple : Triple
+      theTriple = record { parent = nextBlock (begin r) x .parent; height = nextBlock (begin r) x .height .0; contents = s }
+
+      only : (a : Triple) → In a (theTriple ∷ []) → a ≡ theTriple
+      only a (inl h) = h
+      only a (inr h) = absurd h

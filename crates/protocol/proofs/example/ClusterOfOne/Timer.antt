@@ -45,10 +45,10 @@ use Rattle.protocol.proofs.call.Regions.{judge-past}
 use Rattle.protocol.proofs.call.OneCall.{regular-regions}
 use Rattle.protocol.proofs.loop.Advance.{timeout-window, in-timeouts, none-kept}
 use Rattle.protocol.proofs.loop.Loop.{loop-ends}
+use Rattle.protocol.proofs.chain.Call.{written-out}
 use Rattle.protocol.proofs.chain.Records.{with-sender}
 use Rattle.protocol.proofs.example.Rows.{nobody, rows-none, stays}
 use Rattle.protocol.proofs.example.Applies.{Facts, no-A, no-B, no-C-few, no-D-few}
-use Rattle.protocol.proofs.example.Calls.{written-out}
 use Rattle.protocol.proofs.example.ClusterOfOne.Start.{openedOver, Start}
 
 module _ (m : List ℕ) (st : List Block) (S : Start m st) (output : List ℕ) (room : outputLength ≤ length output) where
