@@ -16,6 +16,7 @@ use Rattle.memory.specs.Layout.{entryOf}
 use Rattle.memory.specs.Leaders.{byList}
 use Rattle.protocol.specs.Work.{Work, heldBlock}
 use Rattle.protocol.specs.Refusals.{safeName, child, misplaced, refusals, proposeRules}
+use Rattle.protocol.proofs.Branch.{by-kind}
 use Rattle.refusals.specs.Number.{firstOf, numbered}
 use Rattle.refusals.specs.Early.{votedRules, proposalRules, earlyRules, earlyPropose}
 use Rattle.judge.specs.declared.Want.{Want}
@@ -24,17 +25,9 @@ use Rattle.judge.specs.Late.{childOf, sameFound, misplacedOn, storeFull,
 
 -- a record of another kind than 7 and 8 asks nothing of the store
 pub late-none : (w : Want) (found under : Found) (r : List ℕ) → (kindOf r ≡ 7 → ⊥) → (kindOf r ≡ 8 → ⊥) → 0 ≡ firstOf (lateRules w found under (content r))
-unfolding content lateRules firstOf
-late-none w found under r k7 k8 = rw (ne-eqb (kindOf r) 7 k7, ne-eqb (kindOf r) 8 k8) (go (eqb (kindOf r) 1) (eqb (kindOf r) 2) (eqb (kindOf r) 5) (eqb (kindOf r) 9))
-  where
-    go : (a b c d : Bool) → 0 ≡ firstOf (lateRules w found under
-        (cond a (vote (senderOf r) (viewOf r) (nameOf r)) (cond b (commit (senderOf r) (viewOf r) (nameOf r)) (cond c (timeout (timeoutOf r))
-        (cond d (release (senderOf r) (viewOf r) (nameOf r) (releaseHeightOf r)) (certificate (senderOf r) (certificateOf r)))))))
-    go true b c d = refl
-    go false true c d = refl
-    go false false true d = refl
-    go false false false true = refl
-    go false false false false = refl
+unfolding lateRules firstOf
+late-none w found under r k7 k8 =
+    by-kind (λ q. 0 ≡ firstOf (lateRules w found under q)) r (λ j v x. refl) (λ j v x. refl) (λ t. refl) (λ j k. refl) (λ e j v x y h k. absurd (k7 e)) (λ e j x y h. absurd (k8 e)) (λ e j v x h. refl)
 
 -- ---- two lists of one number
 -- the first rule is the same

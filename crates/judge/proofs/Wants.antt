@@ -14,6 +14,7 @@ use Rattle.memory.specs.Layout.{entryOf}
 use Rattle.counters.specs.declared.Counters.{Counters}
 use Rattle.protocol.specs.Work.{Work, n}
 use Rattle.protocol.specs.Refusals.{regionRules, refusals}
+use Rattle.protocol.proofs.Branch.{by-kind}
 use Rattle.refusals.specs.Number.{firstOf, numbered}
 use Rattle.refusals.specs.Early.{lent, earlyRules, proposalRules, votedRules, earlyPropose}
 use Rattle.refusals.proofs.Numbers.{first-then, else-some, else-none}
@@ -43,17 +44,9 @@ shape-numbered n r = refl
 
 -- ---- a record that asks nothing
 pub asked-none : (m r : List ℕ) → (kindOf r ≡ 7 → ⊥) → (kindOf r ≡ 8 → ⊥) → nothing 0 ≡ asked m (content r)
-unfolding content asked
-asked-none m r k7 k8 = rw (ne-eqb (kindOf r) 7 k7, ne-eqb (kindOf r) 8 k8) (go (eqb (kindOf r) 1) (eqb (kindOf r) 2) (eqb (kindOf r) 5) (eqb (kindOf r) 9))
-  where
-    go : (a b c d : Bool) → nothing 0 ≡ asked m
-        (cond a (vote (senderOf r) (viewOf r) (nameOf r)) (cond b (commit (senderOf r) (viewOf r) (nameOf r)) (cond c (timeout (timeoutOf r))
-        (cond d (release (senderOf r) (viewOf r) (nameOf r) (releaseHeightOf r)) (certificate (senderOf r) (certificateOf r))))))
-    go true b c d = refl
-    go false true c d = refl
-    go false false true d = refl
-    go false false false true = refl
-    go false false false false = refl
+unfolding asked
+asked-none m r k7 k8 =
+    by-kind (λ q. nothing 0 ≡ asked m q) r (λ j v x. refl) (λ j v x. refl) (λ t. refl) (λ j k. refl) (λ e j v x y h k. absurd (k7 e)) (λ e j x y h. absurd (k8 e)) (λ e j v x h. refl)
 
 -- ---- a refusal, and none
 want-some : (k : ℕ) (w : Want) → (k ≡ 0 → ⊥) → nothing k ≡ wantOf k w

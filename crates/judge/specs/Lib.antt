@@ -1,2 +1,3 @@
 pub mod Want
 pub mod Late
+pub mod Contents

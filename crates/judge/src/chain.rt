@@ -14,7 +14,7 @@ ghost use mathlib.Core.List.{_∷_};
 ghost use Rattle.settings.specs.Answer.{_⇒_};
 ghost use Rattle.wire.specs.Shape.{badLength};
 ghost use Rattle.wire.specs.Content.{content};
-ghost use Rattle.refusals.specs.Number.{firstOf};
+ghost use Rattle.refusals.specs.Number.{firstOf, orElse};
 ghost use Rattle.judge.specs.Late.{sameFound, misplacedOn, storeFull, chainRules, lateRules, latePropose};
 
 // The block that was found has that parent and height.
@@ -128,4 +128,25 @@ pub fn propose_chain(want: Want, found: Found, under: Found) -> u64
         return 14;
     }
     0
+}
+
+// A record as a whole: what was refused before the store was asked, or else the late number.
+pub fn record_number(rec: &[u8], want: Want, found: Found, under: Found) -> u64
+    requires { ⌜ (want .refusal ≡ 0 → badLength (now rec) ≡ false) ⌝ }
+    ensures { λ r. ⌜ r ≡ orElse (want .refusal) (firstOf (lateRules want found under (content (now (rec .entry))))) ⌝ }
+{
+    if want.refusal != 0 {
+        return want.refusal;
+    }
+    record_chain(rec, want, found, under)
+}
+
+// Propose as a whole, in the same way.
+pub fn propose_number(want: Want, found: Found, under: Found) -> u64
+    ensures { λ r. ⌜ r ≡ orElse (want .refusal) (firstOf (latePropose want found under)) ⌝ }
+{
+    if want.refusal != 0 {
+        return want.refusal;
+    }
+    propose_chain(want, found, under)
 }

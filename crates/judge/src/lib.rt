@@ -3,6 +3,7 @@
 // Promises: for any counters, memory, lengths and record, both numbers are those of the lists of `protocol`, in 01's order; together they are
 // the call's answer (proofs/Whole.antt: record-judged, propose-judged, timer-judged). Rests on `refusals`, `shape`, `certificate` and `memory`.
 pub mod chain;
+pub mod contents;
 
 use certificate::safe::safe_certificate;
 use codec::name_at;

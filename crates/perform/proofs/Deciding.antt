@@ -3,7 +3,7 @@ use Prim.Native.Nat.{ℕ, suc, _+_, _≤_, _<_}
 use native.Mathlib.Omega.{arith}
 use mathlib.Core.Path.{_≡_, sym, ap, _∙_}
 use mathlib.Core.Bool.{Bool, true, false, not, _&&_, _||_, true≢false}
-use mathlib.Core.List.{List, [], _∷_, _++_}
+use mathlib.Core.List.{List, _++_}
 use borrow.Author.Tests.{ltb-false}
 use lib.Dec.{eqb, ltb}
 use lib.ListN.{length}
@@ -25,6 +25,7 @@ use Rattle.protocol.specs.Events.{onRecord, onPropose}
 use Rattle.protocol.specs.Refusals.{storeLength, regionRules, refusals, timerRules, proposeRules, isHeld, misplaced, nextBlock}
 use Rattle.protocol.specs.Typed.{CountersTyped}
 use Rattle.protocol.proofs.call.Proposals.{room-free}
+use Rattle.protocol.proofs.call.Contents.{quiet-append}
 use Rattle.refusals.specs.Number.{answerOf, firstOf, orElse}
 use Rattle.refusals.specs.Early.{lent}
 use Rattle.refusals.proofs.Numbers.{else-some, else-none}
@@ -49,10 +50,6 @@ quiet-of : (rules : List Rule) (k : ℕ) → ((a : ℕ) → judge rules a ≡ an
 unfolding answerOf
 quiet-of rules k h e = off-judge {A = ℕ} rules 0 0 .0 (h 0 ∙ ap (λ (i : ℕ). answerOf i 0) e) .0
 
-quiet-then : (a b : List Rule) → Quiet (a ++ b) → Quiet a × Quiet b
-quiet-then [] b q = (tt, q)
-quiet-then (x ∷ a) b q = let r = quiet-then a b (q .1) in ((q .0, r .0), r .1)
-
 store-room : (W : Work) (room : ℕ) → Quiet (regionRules W room) → storeLength ≤ length (W .store)
 unfolding regionRules
 store-room W room q = ltb-false (length (W .store)) storeLength (q .1 .0)
@@ -60,13 +57,13 @@ store-room W room q = ltb-false (length (W .store)) storeLength (q .1 .0)
 -- an accepted call has a store of the length that 01 asks
 pub timer-room : (room v : ℕ) (W : Work) → timerNumber room v W ≡ 0 → storeLength ≤ length (W .store)
 unfolding timerNumber
-timer-room room v W e = store-room W room (quiet-then (regionRules W room) (timerRules W v) (quiet-of _ _ (λ a. timer-judged W room v a) e) .0)
+timer-room room v W e = store-room W room (quiet-append (regionRules W room) (timerRules W v) (quiet-of _ _ (λ a. timer-judged W room v a) e) .0)
 
 -- ---- propose
 module _ (room : ℕ) (x : List ℕ) (W : Work) where
   propose-quiet : proposeNumber room x W ≡ 0 → Quiet (regionRules W room) × Quiet (proposeRules W byList x)
   unfolding proposeNumber
-  propose-quiet e = quiet-then (regionRules W room) (proposeRules W byList x) (quiet-of _ _ (λ a. propose-judged W room x a) e)
+  propose-quiet e = quiet-append (regionRules W room) (proposeRules W byList x) (quiet-of _ _ (λ a. propose-judged W room x a) e)
 
   pub propose-room : proposeNumber room x W ≡ 0 → storeLength ≤ length (W .store)
   propose-room e = store-room W room (propose-quiet e .0)
@@ -129,8 +126,8 @@ module _ (room : ℕ) (r : List ℕ) (W : Work) where
   record-quiet : recordNumber room r W ≡ 0 → Quiet (regionRules W room) × (Quiet (shapeRules (n W) r) × Quiet (refusals W byList r (content r)))
   unfolding recordNumber
   record-quiet e =
-      let q = quiet-then (regionRules W room) (shapeRules (n W) r ++ refusals W byList r (content r)) (quiet-of _ _ (λ a. record-judged W room r a) e) in
-      (q .0, quiet-then (shapeRules (n W) r) (refusals W byList r (content r)) (q .1))
+      let q = quiet-append (regionRules W room) (shapeRules (n W) r ++ refusals W byList r (content r)) (quiet-of _ _ (λ a. record-judged W room r a) e) in
+      (q .0, quiet-append (shapeRules (n W) r) (refusals W byList r (content r)) (q .1))
 
   pub record-room : recordNumber room r W ≡ 0 → storeLength ≤ length (W .store)
   record-room e = store-room W room (record-quiet e .0)

@@ -1,4 +1,5 @@
 pub mod Completing
 pub mod Storing
 pub mod Deciding
+pub mod Checking
 pub mod Calls

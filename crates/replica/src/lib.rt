@@ -27,7 +27,8 @@ ghost use mathlib.Core.List.{List, []};
 ghost use lib.ListN.{length, set};
 ghost use Rattle.memory.specs.Leaders.{byList};
 ghost use Rattle.protocol.specs.Rules.{again};
-ghost use Rattle.protocol.specs.Calls.{recordCall, timerCall, proposeCall, openingCall};
+ghost use Rattle.protocol.specs.Contents.{given};
+ghost use Rattle.protocol.specs.Calls.{recordCall, timerCall, proposeCall, openingCall, recordCallWith, proposeCallWith};
 ghost use Rattle.refusals.specs.Number.{answerOf};
 ghost use Rattle.act.specs.Draft.{workOf, left, leftBy};
 ghost use Rattle.blocks.specs.declared.Block.{Block};
@@ -98,6 +99,29 @@ pub extern "C" fn hydrangea_record(
     answer(done.refusal, d.at)
 }
 
+// A record of any bytes that comes with contents of any bytes (02, 2.5).
+#[no_mangle]
+pub extern "C" fn hydrangea_record_with(
+    counters: &mut Counters,
+    mem: &mut [u8],
+    store: &mut [Block],
+    out: &mut [u8],
+    rec: &[u8],
+    contents: &[u8],
+) -> Reply
+    ensures { λ r. ⌜ replied r (now (counters .exit)) (now (mem .exit)) (now (store .exit)) (now (out .exit))
+        ≡ repliedBy (recordCallWith byList (lentTo (now (counters .entry)) (now (mem .entry)) (now (store .entry))) (now (out .entry)) (now (rec .entry)) (given (now (contents .entry)))) ⌝ }
+{
+    let c = *counters;
+    let want = judge::record(c, mem, store.len(), out.len(), rec);
+    let found = held(store, want.count, c.tip, want.name);
+    let under = held(store, want.count, c.tip, want.base);
+    let done = perform::record_with(c, mem, out, rec, want, found, under, contents);
+    let d = conclude(mem, store, out, done);
+    *counters = d.counters;
+    answer(done.refusal, d.at)
+}
+
 // A host hands a view over as its number.
 fn view_of(number: u64) -> View
     ensures { λ r. ⌜ r .0 ≡ number ⌝ }
@@ -143,6 +167,29 @@ pub extern "C" fn hydrangea_propose(
     let found = held(store, want.count, c.tip, want.name);
     let under = held(store, want.count, c.tip, want.base);
     let done = perform::propose(c, mem, out, name.bytes, want, found, under);
+    let d = conclude(mem, store, out, done);
+    *counters = d.counters;
+    answer(done.refusal, d.at)
+}
+
+// A block of a name and of contents is proposed.
+#[no_mangle]
+pub extern "C" fn hydrangea_propose_with(
+    counters: &mut Counters,
+    mem: &mut [u8],
+    store: &mut [Block],
+    out: &mut [u8],
+    name: Name,
+    contents: &[u8],
+) -> Reply
+    ensures { λ r. ⌜ replied r (now (counters .exit)) (now (mem .exit)) (now (store .exit)) (now (out .exit))
+        ≡ repliedBy (proposeCallWith byList (lentTo (now (counters .entry)) (now (mem .entry)) (now (store .entry))) (now (out .entry)) (name .bytes) (given (now (contents .entry)))) ⌝ }
+{
+    let c = *counters;
+    let want = judge::propose(c, mem, store.len(), out.len(), name.bytes);
+    let found = held(store, want.count, c.tip, want.name);
+    let under = held(store, want.count, c.tip, want.base);
+    let done = perform::propose_with(c, mem, out, name.bytes, want, found, under, contents);
     let d = conclude(mem, store, out, done);
     *counters = d.counters;
     answer(done.refusal, d.at)

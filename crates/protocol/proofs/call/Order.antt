@@ -17,7 +17,7 @@ use Rattle.protocol.specs.Refusals.{regionRules, refusals, timerRules, p
 use Rattle.protocol.specs.Contents.{Contents, none, given, tooLongRule, recordDigestRule, rightBefore}
 use Rattle.protocol.specs.Calls.{Replica, begin, _then_, timerRefusals, recordRefusalsWith, proposeRefusalsWith, openingRefusals}
 use Rattle.protocol.specs.OneCall.{openingOrder, recordOrder, timerOrder, proposeOrder, place, inOrder, InOrder}
-use Rattle.protocol.proofs.Branch.{by-cases}
+use Rattle.protocol.proofs.Branch.{by-kind}
 
 pub opening-in-order : (r : Replica) (s : Settings) (m own : ℕ) (leaders : List ℕ) → InOrder openingOrder (openingRefusals r s m own leaders)
 unfolding place inOrder openingRules leaderRules
@@ -33,18 +33,6 @@ unfolding place inOrder regionRules proposeRules rightBefore
 propose-in-order lead r room x none = refl
 propose-in-order lead r room x (given s) = refl
 
--- what holds of every content but a release's holds of what a record says that isn't of kind 9
-of-kind : (P : Content → Type 0) (bytes : List ℕ) → (kindOf bytes ≡ 9 → ⊥) → ((j v : ℕ) (x : List ℕ) → P (vote j v x)) → ((j v : ℕ) (x : List ℕ) → P (commit j v x))
-    → ((t : Timeout) → P (timeout t)) → ((j v : ℕ) (x y : List ℕ) (h : ℕ) (k : Certificate) → P (proposal j v x y h k)) → ((j : ℕ) (x y : List ℕ) (h : ℕ) → P (block j x y h))
-    → ((j : ℕ) (k : Certificate) → P (certificate j k)) → P (content bytes)
-unfolding content
-of-kind P bytes other votes commits timeouts proposals blocks certificates =
-    kind 1 _ _ (votes _ _ _) (kind 2 _ _ (commits _ _ _) (kind 5 _ _ (timeouts _) (kind 7 _ _ (proposals _ _ _ _ _ _) (kind 8 _ _ (blocks _ _ _ _)
-    (by-cases P (eqb (kindOf bytes) 9) _ _ (λ e. absurd (other (eqb-true (kindOf bytes) 9 e))) (λ e. certificates _ _))))))
-  where
-    kind : (a : ℕ) (p q : Content) → P p → P q → P (cond (eqb (kindOf bytes) a) p q)
-    kind a p q h k = by-cases P (eqb (kindOf bytes) a) p q (λ e. h) (λ e. k)
-
 -- the whole list, of a content
 abbrev Whole : Leading → Replica → ℕ → List ℕ → Contents → Content → Type 0
 Whole lead r room bytes c q =
@@ -55,13 +43,13 @@ Whole lead r room bytes c q =
 pub record-in-order : (lead : Leading) (r : Replica) (room : ℕ) (bytes : List ℕ) (c : Contents) → (kindOf bytes ≡ 9 → ⊥) → InOrder recordOrder (recordRefusalsWith lead r room bytes c)
 unfolding place inOrder regionRules refusals rightBefore
 record-in-order lead r room bytes none other =
-    of-kind (Whole lead r room bytes none) bytes other (λ j v x. refl) (λ j v x. refl) (λ t. refl) (λ j v x y h k. refl) (λ j x y h. refl) certified
+    by-kind (Whole lead r room bytes none) bytes (λ j v x. refl) (λ j v x. refl) (λ t. refl) certified (λ e j v x y h k. refl) (λ e j x y h. refl) (λ e j v x h. absurd (other e))
   where
     certified : (j : ℕ) (k : Certificate) → Whole lead r room bytes none (certificate j k)
     certified j (byBlock v x g) = refl
     certified j (byTimeouts v ts) = refl
 record-in-order lead r room bytes (given s) other =
-    of-kind (Whole lead r room bytes (given s)) bytes other (λ j v x. refl) (λ j v x. refl) (λ t. refl) (λ j v x y h k. refl) (λ j x y h. refl) certified
+    by-kind (Whole lead r room bytes (given s)) bytes (λ j v x. refl) (λ j v x. refl) (λ t. refl) certified (λ e j v x y h k. refl) (λ e j x y h. refl) (λ e j v x h. absurd (other e))
   where
     certified : (j : ℕ) (k : Certificate) → Whole lead r room bytes (given s) (certificate j k)
     certified j (byBlock v x g) = refl
