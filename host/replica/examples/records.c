@@ -1,8 +1,9 @@
 /*
  * Six replicas in one program. The first one proposes a block, and records are passed among them until each has
- * released it. Behind every region stand GUARD bytes that no call may touch. With GUARD 0 the regions have exactly
- * their lengths, for a sanitizer; it sees what this program does, and not the library's own code, which isn't
- * instrumented.
+ * released it. The library makes its name, and each replica checks it: the block's contents are handed in beside every
+ * record, and where there is no block in it they do no harm. Behind every region stand GUARD bytes that no call may
+ * touch. With GUARD 0 the regions have exactly their lengths, for a sanitizer; it sees what this program does, and not
+ * the library's own code, which isn't instrumented.
  */
 #include <stdio.h>
 #include <stdlib.h>
@@ -34,7 +35,8 @@ typedef struct parcel {
 static replica cluster[REPLICAS];
 static parcel *first;
 static parcel **last = &first;
-static const hydrangea_block_name block = {{7}};
+static const uint8_t contents[] = "title 7 issued";
+static hydrangea_block_name block; /* the name of the block with these contents on genesis */
 /* Replica 0 leads every other view. */
 static const uint8_t leaders[] = {0, 1, 0, 2, 0, 3, 0, 4, 0, 5};
 
@@ -142,9 +144,12 @@ static void send_output(unsigned own, size_t written) {
 }
 
 static void propose(unsigned own) {
+    const hydrangea_block_name genesis = {{0}};
     replica *one = &cluster[own];
-    hydrangea_reply reply = hydrangea_propose(one->counters, one->memory, HYDRANGEA_MEMORY, one->store, HYDRANGEA_STORE,
-                                              one->output, HYDRANGEA_OUTPUT, block);
+    block = hydrangea_name(genesis, 1, contents, sizeof contents).name;
+    hydrangea_reply reply =
+        hydrangea_propose_with(one->counters, one->memory, HYDRANGEA_MEMORY, one->store, HYDRANGEA_STORE, one->output,
+                               HYDRANGEA_OUTPUT, block, contents, sizeof contents);
     if (reply.refusal != 0) fail("the proposal was refused");
     send_output(own, reply.written);
 }
@@ -152,8 +157,9 @@ static void propose(unsigned own) {
 /* Hands a record to the replica that it goes to. Some are refused: they come late or twice. */
 static void deliver(parcel *next) {
     replica *one = &cluster[next->to];
-    hydrangea_reply reply = hydrangea_record(one->counters, one->memory, HYDRANGEA_MEMORY, one->store, HYDRANGEA_STORE,
-                                             one->output, HYDRANGEA_OUTPUT, next->bytes, next->length);
+    hydrangea_reply reply =
+        hydrangea_record_with(one->counters, one->memory, HYDRANGEA_MEMORY, one->store, HYDRANGEA_STORE, one->output,
+                              HYDRANGEA_OUTPUT, next->bytes, next->length, contents, sizeof contents);
     send_output(next->to, reply.refusal == 0 ? reply.written : 0);
     free(next->bytes);
     free(next);

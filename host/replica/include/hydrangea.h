@@ -16,11 +16,15 @@
  * - each number is opened once, all honest replicas of a cluster with the same settings and the same leader list;
  * - a record is handed in only after its signatures were checked, those of its inner timeouts and of each
  *   certificate's signers too;
- * - a name has one parent and one height: it is a hash over both, such as hydrangea_name makes;
+ * - a name has one parent and one height: every proposal and block comes in with its contents (hydrangea_record_with) and
+ *   own ones are proposed with theirs (hydrangea_propose_with), so that the library checks each name; or the host sees to it;
  * - counters, memory and store are saved before any output byte of the call is sent, and a replica resumes only from
  *   what its last finished call left;
  * - of the output, kind 6 goes to the leader of the next view by the list (for one of view w, of view w + 1), kind 9
  *   (a release) to the host itself, all else to every other replica.
+ *
+ * A proposal travels with its block's contents. The host keeps those of held blocks, until they are released or dropped:
+ * whoever lacks a block asks for it, and takes it (kind 8) with its contents.
  *
  * On the deepest inputs known a call takes under 384 KiB of stack.
  */
@@ -83,7 +87,7 @@ typedef struct hydrangea_counters {
     hydrangea_block tip;   /* the last block released */
 } hydrangea_counters;
 
-/* 0 or a refusal, 1 to 15, and how many bytes of output were written. */
+/* 0 or a refusal, 1 to 17, and how many bytes of output were written. */
 typedef struct hydrangea_reply {
     uint64_t refusal;
     size_t written;
@@ -119,6 +123,17 @@ hydrangea_reply hydrangea_record(hydrangea_counters *counters, uint8_t *memory, 
                                  hydrangea_block *store, size_t store_length, uint8_t *output, size_t output_length,
                                  const uint8_t *record, size_t record_length);
 
+/*
+ * The same with contents, for a proposal (kind 7) or a block (kind 8) those of its block: its name must be what hydrangea_name
+ * makes of its parent, its height and them. Contents of 0 bytes are contents. Refusals as above, and 16 (the contents are
+ * longer than HYDRANGEA_CONTENTS; right after 2, beside any record) and 17 (the name is another one; right before 10, so for
+ * a block that is held too). Beside a record of another kind only the length is judged.
+ */
+hydrangea_reply hydrangea_record_with(hydrangea_counters *counters, uint8_t *memory, size_t memory_length,
+                                      hydrangea_block *store, size_t store_length, uint8_t *output,
+                                      size_t output_length, const uint8_t *record, size_t record_length,
+                                      const uint8_t *contents, size_t contents_length);
+
 /* The clock of a view ran out: a timeout is sent. Refusals 2, 7, 8 (not the current view) and 10 (sent already). */
 hydrangea_reply hydrangea_timer(hydrangea_counters *counters, uint8_t *memory, size_t memory_length,
                                 hydrangea_block *store, size_t store_length, uint8_t *output, size_t output_length,
@@ -134,6 +149,18 @@ hydrangea_reply hydrangea_propose(hydrangea_counters *counters, uint8_t *memory,
                                   hydrangea_block_name name);
 
 /*
+ * The same with the block's contents: the name must be what hydrangea_name makes of the safe block's name, its height plus 1
+ * and them. Refusals as above, and 16 (the contents are longer than HYDRANGEA_CONTENTS; right after 2) and 17 (the name is
+ * another one; right before 14). The safe block is the tip or one of the store's held blocks (memory has their number in
+ * bytes 8 and 9): a host that doesn't know which makes the name on one after another, until the answer is neither 17 nor
+ * 11. Only the right name is taken, and a refused call changes nothing. examples/contents.c does so.
+ */
+hydrangea_reply hydrangea_propose_with(hydrangea_counters *counters, uint8_t *memory, size_t memory_length,
+                                       hydrangea_block *store, size_t store_length, uint8_t *output,
+                                       size_t output_length, hydrangea_block_name name, const uint8_t *contents,
+                                       size_t contents_length);
+
+/*
  * Whose timeout decided it: of a good timeout certificate (kind 6) the lowest sender whose timeout, taken out, leaves at
  * least n - f - c timeouts but another safe block by name. Weak certificates are built anew of the timeouts left. There is
  * none where no sender has that property, as with exactly n - f - c timeouts. The record has any bytes, and nothing is
@@ -147,7 +174,7 @@ hydrangea_decisive_reply hydrangea_decisive(uint64_t f, uint64_t c, uint64_t k, 
 /*
  * The name of a block: SHA-256 (FIPS 180-4) of its parent's name, its height as eight bytes, the lowest first, and its
  * contents, 0 to HYDRANGEA_CONTENTS bytes. The height is any number, and nothing is written. Refusal 16 (the contents are
- * longer). No call on a replica asks how a name was made.
+ * longer). hydrangea_record_with and hydrangea_propose_with check that a block has this name.
  */
 hydrangea_named hydrangea_name(hydrangea_block_name parent, uint64_t height, const uint8_t *contents,
                                size_t contents_length);

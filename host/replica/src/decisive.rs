@@ -17,13 +17,15 @@ use crate::types::Settings;
 /// replica 1 takes; then five time out. Without either of these two the block isn't safe:
 ///
 /// ```
-/// use replica::{decisive_timeout, Name, Refusal, Replica, Settings, View};
+/// use replica::{decisive_timeout, Contents, Refusal, Replica, Settings, View};
 ///
 /// let settings = Settings { f: 1, c: 1, k: 0, n: 6 };
 /// let leaders = settings.in_turn();
 /// let mut cluster = (0..5).map(|own| Replica::open(settings, own, &leaders)).collect::<Result<Vec<_>, Refusal>>()?;
-/// let proposal = cluster[0].propose(Name { bytes: [7; 32] })?.unsaved().records().next().unwrap().bytes.to_vec();
-/// cluster[1].record(&proposal)?.unsaved();
+/// let contents = Contents(b"title 7 issued");
+/// let (_, accepted) = cluster[0].propose_contents(contents)?;
+/// let proposal = accepted.unsaved().records().next().unwrap().bytes.to_vec();
+/// cluster[1].record_with(&proposal, contents)?.unsaved();
 ///
 /// let mut certificate = Vec::new();
 /// certificate.extend_from_slice(&(24 + 5 * 112u32).to_le_bytes()); // the record's length

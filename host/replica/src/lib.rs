@@ -10,10 +10,15 @@
 //! settings and the same leader list, signatures are checked before a record comes in, the state is saved before any output
 //! byte is sent, a replica resumes only from its last finished call.
 //!
+//! A block's name is made by the library from its [`Contents`]: [`Replica::propose_contents`] proposes them, and with
+//! [`Replica::record_with`] the others check that proposals and blocks have the name that their contents give. So a host hands
+//! a proposal's contents on with it, and keeps those of held blocks for whoever asks. A host that sees to its names itself uses
+//! [`Replica::propose`] and [`Replica::record`].
+//!
 //! Four replicas of six vote for the block that the first one proposes, and commit to it:
 //!
 //! ```
-//! use replica::{Content, Height, Name, Receiver, Refusal, Replica, Settings};
+//! use replica::{Content, Contents, Height, Receiver, Refusal, Replica, Settings};
 //!
 //! let settings = Settings { f: 1, c: 1, k: 0, n: 6 };
 //! let leaders = settings.in_turn();
@@ -21,12 +26,13 @@
 //! let mut waiting = Vec::new(); // records on their way: to whom, and the bytes
 //! let mut released = Vec::new();
 //!
-//! let name = Name { bytes: [7; 32] };
-//! let output = cluster[0].propose(name)?.unsaved();
+//! let contents = Contents(b"title 7 issued"); // they travel with the records: beside a vote they do no harm
+//! let (name, accepted) = cluster[0].propose_contents(contents)?;
+//! let output = accepted.unsaved();
 //! waiting.extend(output.records().flat_map(|record| (1..4).map(move |to| (to, record.bytes.to_vec()))));
 //!
 //! while let Some((to, record)) = waiting.pop() {
-//!     let Ok(accepted) = cluster[to].record(&record) else { continue };
+//!     let Ok(accepted) = cluster[to].record_with(&record, contents) else { continue };
 //!     for (receiver, record) in accepted.unsaved().sendings() {
 //!         match (receiver, record.content) {
 //!             (Receiver::Others, _) => {
@@ -44,6 +50,7 @@
 //! # Ok::<(), Refusal>(())
 //! ```
 
+mod contents;
 mod decisive;
 mod name;
 mod record;
@@ -53,6 +60,7 @@ mod types;
 
 pub mod raw;
 
+pub use contents::Contents;
 pub use decisive::decisive_timeout;
 pub use name::block_name;
 pub use record::{Content, Progress, Proposal, Receiver, Record, Release, Timeout, TimeoutCertificate};

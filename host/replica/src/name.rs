@@ -8,8 +8,10 @@ use crate::types::{Height, Name};
 /// contents, 0 to 4,096 bytes. Any height is taken; longer contents are refused by [`Refusal::ContentsTooLong`], and nothing
 /// else is.
 ///
-/// No replica is touched, and none asks how a name was made. A host that gives its blocks this name, and hands in no block or
-/// proposal with another, keeps its duty that a name has one parent and one height, as long as no two blocks have one digest.
+/// No replica is touched. [`Replica::record_with`](crate::Replica::record_with) and
+/// [`Replica::propose_with`](crate::Replica::propose_with) check that a block has this name, and
+/// [`Replica::propose_contents`](crate::Replica::propose_contents) makes it itself. A host whose blocks all have it keeps its duty
+/// that a name has one parent and one height, as long as no two blocks have one digest.
 ///
 /// The name expected here was computed by another program:
 /// `(head -c 32 /dev/zero; printf '\1\0\0\0\0\0\0\0title 7 issued') | sha256sum`.

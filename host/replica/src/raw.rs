@@ -75,6 +75,20 @@ extern "C" {
         record_length: usize,
     ) -> Reply;
 
+    fn hydrangea_record_with(
+        counters: *mut Counters,
+        memory: *mut u8,
+        memory_length: usize,
+        store: *mut Block,
+        store_length: usize,
+        output: *mut u8,
+        output_length: usize,
+        record: *const u8,
+        record_length: usize,
+        contents: *const u8,
+        contents_length: usize,
+    ) -> Reply;
+
     fn hydrangea_timer(
         counters: *mut Counters,
         memory: *mut u8,
@@ -95,6 +109,19 @@ extern "C" {
         output: *mut u8,
         output_length: usize,
         name: Name,
+    ) -> Reply;
+
+    fn hydrangea_propose_with(
+        counters: *mut Counters,
+        memory: *mut u8,
+        memory_length: usize,
+        store: *mut Block,
+        store_length: usize,
+        output: *mut u8,
+        output_length: usize,
+        name: Name,
+        contents: *const u8,
+        contents_length: usize,
     ) -> Reply;
 
     fn hydrangea_decisive(f: u64, c: u64, k: u64, n: u64, record: *const u8, record_length: usize) -> Decisive;
@@ -139,6 +166,11 @@ impl Lent<'_> {
         call!(hydrangea_record, self, record.as_ptr(), record.len())
     }
 
+    /// A record of any bytes that comes with contents of any bytes.
+    pub fn record_with(&mut self, record: &[u8], contents: &[u8]) -> Reply {
+        call!(hydrangea_record_with, self, record.as_ptr(), record.len(), contents.as_ptr(), contents.len())
+    }
+
     /// The timer of a view.
     pub fn timer(&mut self, view: u64) -> Reply {
         call!(hydrangea_timer, self, view)
@@ -147,6 +179,11 @@ impl Lent<'_> {
     /// A block of this name is proposed.
     pub fn propose(&mut self, name: Name) -> Reply {
         call!(hydrangea_propose, self, name)
+    }
+
+    /// A block of this name, with contents of any bytes, is proposed.
+    pub fn propose_with(&mut self, name: Name, contents: &[u8]) -> Reply {
+        call!(hydrangea_propose_with, self, name, contents.as_ptr(), contents.len())
     }
 }
 

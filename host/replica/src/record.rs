@@ -144,12 +144,28 @@ fn read_timeout_certificate(bytes: &[u8]) -> Option<TimeoutCertificate<'_>> {
 }
 
 impl<'a> Progress<'a> {
+    /// The names that it gives, each once: a block certificate its own, a timeout certificate those of its timeouts'
+    /// certificates and high votes. Its safe block is one of them.
+    pub fn names(&self) -> Vec<Name> {
+        let mut names = match self {
+            Progress::Block(certificate) => vec![certificate.name],
+            Progress::Timeouts(certificate) => certificate.timeouts().flat_map(names_of).collect(),
+        };
+        names.sort_unstable();
+        names.dedup();
+        names
+    }
+
     pub(crate) fn read(bytes: &'a [u8]) -> Option<Progress<'a>> {
         match u16_at(bytes, 4)? {
             3 => Some(Progress::Block(certificate_at(bytes, 8)?)),
             _ => Some(Progress::Timeouts(read_timeout_certificate(bytes)?)),
         }
     }
+}
+
+fn names_of(timeout: Timeout) -> impl Iterator<Item = Name> {
+    [timeout.certificate.name].into_iter().chain(timeout.high_vote.map(|vote| vote.name))
 }
 
 fn read_proposal(bytes: &[u8]) -> Option<Proposal<'_>> {

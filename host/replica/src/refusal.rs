@@ -3,8 +3,8 @@
 use std::error::Error;
 use std::fmt;
 
-/// The refusals. 1 to 15 are 01's, by place, in the order in which they are judged; 16 is 02's, and
-/// [`block_name`](crate::block_name) alone gives it. A refused call changes nothing.
+/// The refusals. 1 to 15 are 01's, by place, in the order in which they are judged. 16 and 17 are 02's, for what comes with
+/// contents: 16 is judged right after 2, 17 right before 10 (propose: before 14). A refused call changes nothing.
 #[derive(Clone, Copy, Debug, PartialEq, Eq, PartialOrd, Ord, Hash)]
 #[repr(u64)]
 pub enum Refusal {
@@ -24,11 +24,12 @@ pub enum Refusal {
     StoreFull = 14,
     Turn = 15,
     ContentsTooLong = 16,
+    NameWrong = 17,
 }
 
 impl Refusal {
     /// All of them, number 1 first.
-    pub const ALL: [Refusal; 16] = [
+    pub const ALL: [Refusal; 17] = [
         Refusal::Settings,
         Refusal::Regions,
         Refusal::Length,
@@ -45,23 +46,24 @@ impl Refusal {
         Refusal::StoreFull,
         Refusal::Turn,
         Refusal::ContentsTooLong,
+        Refusal::NameWrong,
     ];
 
-    /// The refusal of this number; none for 0, which is acceptance, and from 17 on.
+    /// The refusal of this number; none for 0, which is acceptance, and from 18 on.
     ///
     /// ```
     /// use replica::Refusal;
     ///
     /// assert_eq!(Refusal::of(10), Some(Refusal::Repeated));
-    /// assert_eq!((Refusal::of(0), Refusal::of(17)), (None, None));
+    /// assert_eq!((Refusal::of(0), Refusal::of(18)), (None, None));
     /// assert!(Refusal::ALL.into_iter().all(|refusal| Refusal::of(refusal.number()) == Some(refusal)));
     /// ```
     pub fn of(number: u64) -> Option<Refusal> {
         Refusal::ALL.into_iter().find(|refusal| refusal.number() == number)
     }
 
-    /// Acceptance, or the refusal of this number. By the library's proof no number above 16 comes back, and 16 only from the
-    /// call that names a block; a higher one would read as 2.
+    /// Acceptance, or the refusal of this number. By the library's proof no number above 17 comes back; a higher one
+    /// would read as 2.
     pub(crate) fn judge(number: u64) -> Result<(), Refusal> {
         match number {
             0 => Ok(()),
@@ -69,7 +71,7 @@ impl Refusal {
         }
     }
 
-    /// 01's number, 1 to 15, or 02's, 16.
+    /// 01's number, 1 to 15, or 02's, 16 and 17.
     pub fn number(self) -> u64 {
         self as u64
     }
@@ -98,6 +100,7 @@ impl Refusal {
             Refusal::StoreFull => "the block is new and the store is full",
             Refusal::Turn => "it isn't this replica's turn to propose",
             Refusal::ContentsTooLong => "the contents are longer than 4,096 bytes",
+            Refusal::NameWrong => "the name isn't the digest of parent, height and contents",
         }
     }
 

@@ -1,7 +1,9 @@
 //! A replica with regions of its own.
 
+use std::cmp::Reverse;
 use std::fmt;
 
+use crate::contents::Contents;
 use crate::raw::{self, Lent, Reply};
 use crate::record::{leader_after, u16_at, Progress, Receiver, Record};
 use crate::refusal::Refusal;
@@ -81,6 +83,33 @@ impl Replica {
         self.accepted(reply)
     }
 
+    /// Takes a record of any bytes that comes with contents. Of a proposal (kind 7) or a block (kind 8) they are the block's,
+    /// and the call checks that its name is [`block_name`](crate::block_name) of its parent, its height and them: if not,
+    /// it is refused by [`Refusal::NameWrong`], held or not. Beside any other kind only their length is judged.
+    ///
+    /// Where every honest replica of a cluster takes only blocks that come with their contents, no name has two parents or
+    /// two heights as long as no two blocks have one digest.
+    ///
+    /// ```
+    /// use replica::{block_name, Contents, Height, Name, Refusal, Replica, Settings};
+    ///
+    /// # let mut replica = Replica::open(Settings { f: 1, c: 1, k: 0, n: 6 }, 0, &[0, 1, 2, 3, 4, 5])?;
+    /// let name = block_name(Name::GENESIS, Height(1), b"title 7 issued")?;
+    /// let mut block = [0; 80];
+    /// block[..8].copy_from_slice(&[80, 0, 0, 0, 8, 0, 2, 0]); // length 80, kind 8, sender 2
+    /// block[8..40].copy_from_slice(&name.bytes); // on genesis, whose name is zeros
+    /// block[72] = 1; // its height
+    /// assert_eq!(replica.record_with(&block, Contents(b"title 8 issued")).err(), Some(Refusal::NameWrong));
+    /// assert_eq!(replica.record_with(&block, Contents(b"")).err(), Some(Refusal::NameWrong));
+    /// assert!(replica.record_with(&block, Contents(b"title 7 issued")).is_ok());
+    /// assert_eq!(replica.held()[0].name, name);
+    /// # Ok::<(), Refusal>(())
+    /// ```
+    pub fn record_with(&mut self, record: &[u8], contents: Contents<'_>) -> Result<Accepted<'_>, Refusal> {
+        let reply = self.lent().record_with(record, contents.0);
+        self.accepted(reply)
+    }
+
     /// The clock of a view ran out.
     ///
     /// ```
@@ -103,8 +132,8 @@ impl Replica {
         self.accepted(reply)
     }
 
-    /// Proposes a block of this name in the current view, on the safe block of [`Replica::entry`]. A name has one parent and
-    /// one height: it is a hash over both, such as [`block_name`](crate::block_name) makes, or the host sees to it.
+    /// Proposes a block of this name in the current view, on the safe block of [`Replica::entry`]. No one checks how the name
+    /// was made: it has one parent and one height, or the host sees to it. [`Replica::propose_contents`] makes the name.
     ///
     /// ```
     /// # use replica::{Content, Name, Replica, Settings};
@@ -117,6 +146,72 @@ impl Replica {
     pub fn propose(&mut self, name: Name) -> Result<Accepted<'_>, Refusal> {
         let reply = self.lent().propose(name);
         self.accepted(reply)
+    }
+
+    /// The same for a name that was made from these contents: the call checks that it is [`block_name`](crate::block_name) of
+    /// the safe block, the height above it and them, and refuses it by [`Refusal::NameWrong`] if not.
+    ///
+    /// ```
+    /// # use replica::{block_name, Contents, Height, Name, Refusal, Replica, Settings};
+    /// # let mut replica = Replica::open(Settings { f: 1, c: 1, k: 0, n: 6 }, 0, &[0, 1, 2, 3, 4, 5]).unwrap();
+    /// let contents = Contents(b"title 7 issued");
+    /// let name = block_name(Name::GENESIS, Height(1), contents.0)?;
+    /// let other = block_name(name, Height(2), contents.0)?; // not on genesis, which is the safe block
+    /// assert_eq!(replica.propose_with(other, contents).err(), Some(Refusal::NameWrong));
+    /// assert!(replica.propose_with(name, contents).is_ok());
+    /// # Ok::<(), Refusal>(())
+    /// ```
+    pub fn propose_with(&mut self, name: Name, contents: Contents<'_>) -> Result<Accepted<'_>, Refusal> {
+        let reply = self.lent().propose_with(name, contents.0);
+        self.accepted(reply)
+    }
+
+    /// Proposes a block with these contents. Its name is made by the library, and comes back with what the call wrote: a host
+    /// needs no hash of its own, and doesn't ask which block is safe.
+    ///
+    /// The safe block is held and named in the entry certificate, or the call is refused by [`Refusal::ParentMissing`]. The
+    /// name is made on each block that may be it, and the library takes the one that is right: on any other block it isn't
+    /// the digest, and a refused call changes nothing. A block that is held already is refused by [`Refusal::Conflicting`].
+    ///
+    /// ```
+    /// use replica::{Contents, Content, Refusal, Replica, Settings};
+    ///
+    /// let settings = Settings { f: 1, c: 1, k: 0, n: 6 };
+    /// let mut leader = Replica::open(settings, 0, &settings.in_turn())?;
+    /// let (name, accepted) = leader.propose_contents(Contents(b"title 7 issued"))?;
+    /// let Some(Content::Proposal(proposal)) = accepted.unsaved().records().next().map(|record| record.content) else {
+    ///     panic!("what is proposed is written first");
+    /// };
+    /// assert_eq!(proposal.block.name, name);
+    /// assert_eq!(leader.propose_contents(Contents(b"title 8 issued")).err(), Some(Refusal::Turn)); // one a view
+    /// # Ok::<(), Refusal>(())
+    /// ```
+    pub fn propose_contents(&mut self, contents: Contents<'_>) -> Result<(Name, Accepted<'_>), Refusal> {
+        let mut refusal = Refusal::NameWrong;
+        for parent in self.possible_parents() {
+            // Of contents that are too long the name is zero, and the call refuses them in its own order.
+            let name = raw::name(parent.name, parent.height.0.wrapping_add(1), contents.0).name;
+            let reply = self.lent().propose_with(name, contents.0);
+            match accept(reply) {
+                Err(Refusal::NameWrong) => {}
+                Err(Refusal::Conflicting) => refusal = Refusal::Conflicting,
+                _ => return self.accepted(reply).map(|accepted| (name, accepted)),
+            }
+        }
+        Err(refusal)
+    }
+
+    /// Held blocks that the entry certificate names, the highest first: its safe block is one of them, if it is held. If none
+    /// is, it is the tip, on which the call is refused as on any other.
+    fn possible_parents(&self) -> Vec<Block> {
+        let names = self.entry().map(|entry| entry.names()).unwrap_or_default();
+        let held = [self.tip()].into_iter().chain(self.held().iter().copied());
+        let mut named: Vec<Block> = held.filter(|block| names.contains(&block.name)).collect();
+        named.sort_by_key(|block| Reverse(block.height));
+        if named.is_empty() {
+            named.push(self.tip());
+        }
+        named
     }
 
     fn lent(&mut self) -> Lent<'_> {

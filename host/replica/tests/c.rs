@@ -16,6 +16,18 @@ use sha256sum::{hex, sha256sum};
 const STRICT: [&str; 4] = ["-Wall", "-Wextra", "-Werror", "-O2"];
 const OPEN: &str = "0 0 10\n";
 const DECISIVE: &str = "The choice hung on the timeout of replica 1.\n";
+const CONTENTS: &str = "\
+a block: 0
+a block on it: 0
+contents too long: 16
+proposed: 0
+with other contents: 17
+with none: 17
+with contents too long: 16
+with its own: 0
+again: 10
+again with other contents: 17
+";
 const SANITIZER: [&str; 3] = ["-fsanitize=address,undefined", "-fno-sanitize-recover=all", "-DGUARD=0"];
 
 fn folder() -> &'static Path {
@@ -89,6 +101,7 @@ fn the_examples_run() {
     assert_eq!(run("records", "", &["-std=c11"]), all_released());
     assert_eq!(run("decisive", "", &["-std=c11"]), DECISIVE);
     assert_eq!(run("name", "", &["-std=c11"]), made_names());
+    assert_eq!(run("contents", "", &["-std=c11"]), CONTENTS);
 }
 
 /// Regions of exactly their lengths, so that the sanitizer sees an overrun by the C code; the library's own code isn't
@@ -101,6 +114,7 @@ fn the_examples_run_sanitized() {
     assert_eq!(run("records", "-sanitized", &flags), all_released());
     assert_eq!(run("decisive", "-sanitized", &flags), DECISIVE);
     assert_eq!(run("name", "-sanitized", &flags), made_names());
+    assert_eq!(run("contents", "-sanitized", &flags), CONTENTS);
 }
 
 /// The exit code and the words of `decisive.c` in the cluster of six for what it reads.
