@@ -10,12 +10,12 @@ use std::time::Duration;
 use std::{fs, io};
 
 use oracle::wire::{self, kind, Progress};
-use oracle::{Certificate, Protocol, View, Vote, GENESIS};
-use replica::{Refusal, Replica};
+use oracle::{Block, Certificate, Height, Name, Protocol, View, Vote, GENESIS};
+use replica::{raw, Refusal, Replica};
 use streams::Random;
 
 use crate::card::{self, Signature, Signatures, Signer};
-use crate::contents::{Blocks, Contents};
+use crate::contents::{Blocks, FullBlock};
 use crate::frame::Frame;
 use crate::net::{Event, Net};
 use crate::{entry_record, key_file, N};
@@ -33,7 +33,7 @@ struct Liar {
     replica: Replica,
     signatures: Signatures,
     blocks: Blocks,
-    recent: Vec<Contents>,
+    recent: Vec<FullBlock>,
     seen: Vec<Frame>,
     /// The last view that it did something about as leader.
     led: u64,
@@ -73,13 +73,13 @@ impl Liar {
     fn hear(&mut self, bytes: &[u8]) {
         let Some(frame) = Frame::decode(bytes) else { return };
         match &frame {
-            Frame::Record { record, signatures, contents } => {
+            Frame::Record { record, signatures, block } => {
                 self.signatures.learn(card::statements(record, u32::from(N)), signatures);
-                self.hold(*contents);
+                self.hold(block.clone());
                 self.hand_in(record);
                 self.remember(frame);
             }
-            Frame::Ask { name, .. } => self.mislead(self.blocks.get(name).copied()),
+            Frame::Ask { name, .. } => self.mislead(self.blocks.get(name).cloned()),
             Frame::Chain(_) => {}
         }
         if self.random.chance(5) {
@@ -96,13 +96,12 @@ impl Liar {
     }
 
     /// Its own replica takes a block.
-    fn hold(&mut self, contents: Option<Contents>) {
-        let Some(contents) = contents.filter(|contents| !self.blocks.has(&contents.name())) else { return };
-        let mut record = Vec::new();
-        wire::write_block(&mut record, self.own, &contents.block());
-        self.hand_in(&record);
-        self.blocks.learn(contents);
-        self.recent.push(contents);
+    fn hold(&mut self, block: Option<FullBlock>) {
+        let Some(block) = block else { return };
+        let Some(name) = block.name().filter(|name| !self.blocks.has(name)) else { return };
+        self.hand_in(&block.record(self.own, name));
+        self.blocks.learn(name, block.clone());
+        self.recent.push(block);
         let over = self.recent.len().saturating_sub(RECENT);
         self.recent.drain(..over);
     }
@@ -143,25 +142,25 @@ impl Liar {
     }
 
     /// A record with the signatures that it can give; the others are made up.
-    fn frame(&mut self, record: Vec<u8>, contents: Option<Contents>) -> Frame {
+    fn frame(&mut self, record: Vec<u8>, block: Option<FullBlock>) -> Frame {
         let statements = card::statements(&record, u32::from(N));
         let mut signatures = Vec::new();
         for statement in &statements {
             signatures.push(self.signatures.find(statement).unwrap_or_else(|| made_up(&mut self.random)));
         }
-        Frame::Record { record, signatures, contents }
+        Frame::Record { record, signatures, block }
     }
 
     /// A vote or commit for any block.
-    fn ballot(&mut self, kind: u16, view: View, contents: Contents) -> Frame {
-        let vote = Vote { view, name: contents.name() };
+    fn ballot(&mut self, kind: u16, view: View, block: &FullBlock) -> Frame {
+        let vote = Vote { view, name: name_of(block) };
         let mut record = Vec::new();
         if kind == kind::VOTE {
             wire::write_vote(&mut record, self.own, vote);
         } else {
             wire::write_commit(&mut record, self.own, vote);
         }
-        self.frame(record, (kind == kind::VOTE).then_some(contents))
+        self.frame(record, (kind == kind::VOTE).then(|| block.clone()))
     }
 
     /// Its replica's output, told to each in another way.
@@ -187,11 +186,11 @@ impl Liar {
 
     /// The vote, another one, both or none.
     fn retell_ballot(&mut self, record: &[u8]) {
-        let Some(true_block) = self.blocks.get(&wire::name_at(record, 16)).copied() else { return };
+        let Some(true_block) = self.blocks.get(&wire::name_at(record, 16)).cloned() else { return };
         let (kind, view) = (wire::kind_of(record), View(wire::u64_at(record, 8)));
         for to in self.others() {
-            let other_block = self.any_block(true_block);
-            let ballots = [true_block, other_block].map(|block| self.ballot(kind, view, block));
+            let other_block = self.any_block(&true_block);
+            let ballots = [&true_block, &other_block].map(|block| self.ballot(kind, view, block));
             let chosen: &[usize] = self.random.pick(&[&[0][..], &[1], &[0, 1], &[1, 0], &[]]);
             for &ballot in chosen {
                 self.send(to, &ballots[ballot]);
@@ -200,11 +199,16 @@ impl Liar {
     }
 
     /// A block to lie about: a twin of the true one, or one of before.
-    fn any_block(&mut self, block: Contents) -> Contents {
+    fn any_block(&mut self, block: &FullBlock) -> FullBlock {
         if self.recent.is_empty() || self.random.chance(50) {
             return twin(block);
         }
-        self.random.pick(&self.recent)
+        self.any_recent()
+    }
+
+    /// One of those of before; there are some.
+    fn any_recent(&mut self) -> FullBlock {
+        self.recent[self.random.index(self.recent.len())].clone()
     }
 
     /// Timeouts with false high votes and other certificates.
@@ -227,9 +231,9 @@ impl Liar {
         if self.recent.is_empty() {
             return true_vote;
         }
-        let block = self.random.pick(&self.recent);
-        let other = Vote { view, name: block.name() };
-        let twins = Vote { view, name: twin(block).name() };
+        let block = self.any_recent();
+        let other = Vote { view, name: name_of(&block) };
+        let twins = Vote { view, name: name_of(&twin(&block)) };
         self.random.pick(&[true_vote, Vote::NONE, other, twins])
     }
 
@@ -248,37 +252,57 @@ impl Liar {
             Progress::Timeouts(certificate) => self.protocol.safe_certificate(certificate.timeouts).name,
         };
         let Some(height) = self.blocks.height(&parent) else { return };
-        let block = Contents { parent, height: height + 1, view: view.0, payload: self.random.number() };
+        let contents = [view.0, self.random.number()].map(u64::to_le_bytes).concat();
+        let block = FullBlock { parent, height: height + 1, contents };
         match self.random.below(4) {
             0 => {}
-            1 => self.propose(view, [block, Contents { parent: GENESIS, height: 1, ..block }], &entry),
-            _ => self.propose(view, [block, twin(block)], &entry),
+            1 => self.propose(view, [FullBlock { parent: GENESIS, height: 1, ..block.clone() }, block], &entry),
+            _ => self.propose(view, [twin(&block), block], &entry),
         }
     }
 
-    fn propose(&mut self, view: View, blocks: [Contents; 2], entry: &[u8]) {
-        let proposals = blocks.map(|block| {
-            let mut record = Vec::new();
-            wire::write_proposal(&mut record, self.own, view, &block.block(), entry);
-            self.frame(record, Some(block))
-        });
-        let votes = blocks.map(|block| self.ballot(kind::VOTE, view, block));
+    fn propose(&mut self, view: View, blocks: [FullBlock; 2], entry: &[u8]) {
+        let proposals = blocks.each_ref().map(|block| self.proposal(view, block, entry));
+        let votes = blocks.each_ref().map(|block| self.ballot(kind::VOTE, view, block));
         for to in self.others() {
             let shown = self.random.index(2);
-            self.send(to, &proposals[shown]);
+            let proposal = self.misnamed_at_times(&proposals[shown]);
+            self.send(to, &proposal);
             self.send(to, &votes[shown]);
             self.send(to, &votes[1 - shown]);
         }
         blocks.into_iter().for_each(|block| self.hold(Some(block)));
     }
 
+    fn proposal(&mut self, view: View, block: &FullBlock, entry: &[u8]) -> Frame {
+        let mut record = Vec::new();
+        let named = Block { name: name_of(block), parent: block.parent, height: Height(block.height) };
+        wire::write_proposal(&mut record, self.own, view, &named, entry);
+        self.frame(record, Some(block.clone()))
+    }
+
+    /// The frame as it is, with contents that its block's name isn't made of, or without any.
+    fn misnamed_at_times(&mut self, frame: &Frame) -> Frame {
+        let mut frame = frame.clone();
+        if let Frame::Record { block, .. } = &mut frame {
+            match self.random.below(6) {
+                0 => *block = block.as_ref().map(twin),
+                1 => *block = block.as_ref().map(too_long),
+                2 => *block = None,
+                _ => {}
+            }
+        }
+        frame
+    }
+
     // ------------------------------------------------------------ noise
 
     /// A wrong answer to one who asks for blocks.
-    fn mislead(&mut self, block: Option<Contents>) {
+    fn mislead(&mut self, block: Option<FullBlock>) {
         let Some(block) = block else { return };
         let to = self.another();
-        self.send(to, &Frame::Chain(vec![block, twin(block)]));
+        let twin = twin(&block);
+        self.send(to, &Frame::Chain(vec![block, twin]));
     }
 
     /// Something that no honest process sends.
@@ -288,7 +312,7 @@ impl Liar {
         let noise: Vec<u8> = (0..length).map(|_| self.random.number() as u8).collect();
         let frame = match self.random.below(6) {
             0 => return self.send_bytes(to, [&(length as u32).to_le_bytes()[..], &noise].concat()),
-            1 => Frame::Record { record: noise, signatures: Vec::new(), contents: None },
+            1 => Frame::Record { record: noise, signatures: Vec::new(), block: None },
             2 => self.headed_noise(noise),
             3 => self.damaged(),
             4 => self.forged(),
@@ -326,31 +350,50 @@ impl Liar {
 
     /// A certificate of votes that nobody gave, with made up signatures.
     fn forged(&mut self) -> Frame {
-        let name = self.recent.last().map_or([1; 32], |block| twin(*block).name());
+        let name = self.recent.last().map_or([1; 32], |block| name_of(&twin(block)));
         let certificate = Certificate::block(View(self.replica.view().0), name, 0b111111);
         let mut record = Vec::new();
         wire::write_block_certificate(&mut record, self.own, &certificate);
         self.frame(record, None)
     }
 
-    /// A vote whose block isn't what the name says.
+    /// A vote with a block that hasn't its name: another height, other contents, or too many.
     fn misnamed(&mut self) -> Frame {
-        let block = self.recent.last().copied().map_or(FIRST, twin);
-        match self.ballot(kind::VOTE, View(self.replica.view().0), block) {
-            Frame::Record { record, signatures, .. } => {
-                let contents = Contents { height: block.height + 1, ..block };
-                Frame::Record { record, signatures, contents: Some(contents) }
-            }
-            frame => frame,
+        let block = self.recent.last().map_or_else(first, twin);
+        let mut frame = self.ballot(kind::VOTE, View(self.replica.view().0), &block);
+        let higher = FullBlock { height: block.height + 1, ..block.clone() };
+        let wrong = self.random.pick(&[0, 1, 2]);
+        if let Frame::Record { block: shown, .. } = &mut frame {
+            *shown = [higher, twin(&block), too_long(&block)].into_iter().nth(wrong);
         }
+        frame
     }
 }
 
-const FIRST: Contents = Contents { parent: GENESIS, height: 1, view: 1, payload: 0 };
+fn first() -> FullBlock {
+    FullBlock { parent: GENESIS, height: 1, contents: vec![1] }
+}
 
-/// Another block with the same parent, height and view.
-fn twin(block: Contents) -> Contents {
-    Contents { payload: !block.payload, ..block }
+/// The zero name where there is none: nobody takes that.
+fn name_of(block: &FullBlock) -> Name {
+    block.name().unwrap_or(GENESIS)
+}
+
+/// Another block with the same parent and height.
+fn twin(block: &FullBlock) -> FullBlock {
+    let mut contents = block.contents.clone();
+    match contents.last_mut() {
+        Some(byte) => *byte ^= 1,
+        None => contents.push(1),
+    }
+    FullBlock { contents, ..*block }
+}
+
+/// The same with one byte of contents too many.
+fn too_long(block: &FullBlock) -> FullBlock {
+    let mut contents = block.contents.clone();
+    contents.resize(raw::CONTENTS + 1, 0);
+    FullBlock { contents, ..*block }
 }
 
 fn made_up(random: &mut Random) -> Signature {

@@ -6,20 +6,20 @@ use oracle::Name;
 
 use crate::card::Signature;
 use crate::codec::{Reader, Writer};
-use crate::contents::Contents;
+use crate::contents::FullBlock;
 
-/// The longest frame that is read; an honest one is far shorter.
-const LONGEST: u32 = 1 << 16;
+/// The longest frame that is read: an honest one has at most 120 blocks of 4,096 bytes.
+const LONGEST: u32 = 1 << 20;
 
 #[derive(Clone, Debug, PartialEq, Eq)]
 pub enum Frame {
-    /// A record with its signatures. A proposal and a vote have the block's contents with them: who voted for a block
-    /// hands it on.
-    Record { record: Vec<u8>, signatures: Vec<Signature>, contents: Option<Contents> },
+    /// A record with its signatures. A proposal and a vote have the block with them, its contents too: who voted for a
+    /// block hands it on.
+    Record { record: Vec<u8>, signatures: Vec<Signature>, block: Option<FullBlock> },
     /// Asks for a block and those below it, down to above a height.
     Ask { above: u64, name: Name },
     /// The answer: blocks from the highest down, each the parent of the one before.
-    Chain(Vec<Contents>),
+    Chain(Vec<FullBlock>),
 }
 
 impl Frame {
@@ -27,13 +27,13 @@ impl Frame {
     pub fn encode(&self) -> Vec<u8> {
         let mut out = Writer(vec![0; 4]);
         match self {
-            Frame::Record { record, signatures, contents } => {
+            Frame::Record { record, signatures, block } => {
                 out.number(0).bytes(record);
                 out.list(signatures.iter(), |out, signature| _ = out.fixed(signature));
-                out.list(contents.iter(), |out, contents| contents.write(out));
+                out.list(block.iter(), |out, block| block.write(out));
             }
             Frame::Ask { above, name } => _ = out.number(1).number(*above).fixed(name),
-            Frame::Chain(chain) => _ = out.number(2).list(chain.iter(), |out, contents| contents.write(out)),
+            Frame::Chain(chain) => _ = out.number(2).list(chain.iter(), |out, block| block.write(out)),
         }
         let length = (out.0.len() - 4) as u32;
         out.0[..4].copy_from_slice(&length.to_le_bytes());
@@ -47,10 +47,10 @@ impl Frame {
             0 => {
                 let record = bytes.bytes()?.to_vec();
                 let signatures = bytes.list(Reader::fixed)?;
-                Frame::Record { record, signatures, contents: bytes.list(Contents::read)?.pop() }
+                Frame::Record { record, signatures, block: bytes.list(FullBlock::read)?.pop() }
             }
             1 => Frame::Ask { above: bytes.number()?, name: bytes.fixed()? },
-            2 => Frame::Chain(bytes.list(Contents::read)?),
+            2 => Frame::Chain(bytes.list(FullBlock::read)?),
             _ => return None,
         };
         bytes.end(frame)
@@ -76,10 +76,12 @@ mod tests {
 
     #[test]
     fn what_is_written_is_read() {
-        let contents = Contents { parent: [1; 32], height: 2, view: 3, payload: 4 };
-        let record = |contents| Frame::Record { record: vec![5; 48], signatures: vec![[6; 16], [7; 16]], contents };
+        let block = FullBlock { parent: [1; 32], height: 2, contents: vec![3; 4] };
+        let empty = FullBlock { contents: Vec::new(), ..block.clone() };
+        let record = |block| Frame::Record { record: vec![5; 48], signatures: vec![[6; 16], [7; 16]], block };
         let ask = Frame::Ask { above: 8, name: [9; 32] };
-        for frame in [record(None), record(Some(contents)), ask, Frame::Chain(vec![contents; 3])] {
+        for frame in [record(None), record(Some(block.clone())), record(Some(empty)), ask, Frame::Chain(vec![block; 3])]
+        {
             let bytes = frame.encode();
             let read = read_bytes(&mut bytes.as_slice()).expect("a whole frame");
             assert_eq!(Frame::decode(&read), Some(frame));

@@ -4,20 +4,20 @@
 //! A process that is killed on the way goes on from the last save, so a call is either saved and sent (perhaps twice)
 //! or lost whole.
 
-use std::collections::{HashMap, VecDeque};
+use std::collections::{HashMap, HashSet, VecDeque};
 use std::path::PathBuf;
 use std::sync::mpsc::RecvTimeoutError;
 use std::sync::Arc;
 use std::time::{Duration, Instant};
 use std::{io, thread};
 
-use oracle::wire::{self, kind, Progress, Record};
-use oracle::{Name, Protocol, View};
-use replica::{Certificate, Receiver, Refusal, Replica};
+use oracle::wire::{self, kind, Record};
+use oracle::{Block, Name, View};
+use replica::{raw, Certificate, Contents, Receiver, Refusal, Replica};
 
 use crate::card::{self, Signature, Signatures, Signer, Statement, Verifier};
 use crate::clock::Clock;
-use crate::contents::{Blocks, Contents};
+use crate::contents::{linked, Blocks, FullBlock};
 use crate::frame::Frame;
 use crate::net::{Event, Net};
 use crate::state::{self, Counts, Release, Saved, Sending};
@@ -110,13 +110,32 @@ struct Incoming {
     from: u16,
     record: Vec<u8>,
     signatures: Vec<Signature>,
-    contents: Option<Contents>,
+    block: Option<FullBlock>,
+}
+
+impl Incoming {
+    fn contents(&self) -> Option<Contents<'_>> {
+        self.block.as_ref().map(|block| Contents(&block.contents))
+    }
+
+    /// The block that it proposes, if it does: what the record says of it, with the contents that came with it. If the
+    /// replica takes it, they are the right ones.
+    fn proposed(&self) -> Option<(Name, FullBlock)> {
+        let Ok(Record::Proposal(proposal)) = wire::read(&self.record, u32::from(N)) else { return None };
+        Some(full(&proposal.block, self.contents()?.0))
+    }
+
+    /// The block that it votes for, if it does and came with one. Whether it has that name is for the replica to say.
+    fn voted(self) -> Option<(Name, FullBlock)> {
+        let Ok(Record::Vote { vote, .. }) = wire::read(&self.record, u32::from(N)) else { return None };
+        Some((vote.name, self.block?))
+    }
 }
 
 enum Call<'a> {
-    Record(&'a [u8]),
+    Record(&'a [u8], Option<Contents<'a>>),
     Timer(u64),
-    Propose(Name),
+    Propose(Contents<'a>),
 }
 
 /// What a host may take as known once a call is accepted.
@@ -124,13 +143,12 @@ enum Call<'a> {
 struct Known {
     statements: Vec<Statement>,
     signatures: Vec<Signature>,
-    contents: Option<Contents>,
+    block: Option<(Name, FullBlock)>,
 }
 
 pub struct Host {
     options: Options,
     net: Net,
-    protocol: Protocol,
     replica: Replica,
     verifier: Verifier,
     signatures: Signatures,
@@ -157,7 +175,6 @@ impl Host {
         };
         let host = Host {
             net: Net::start(&options.folder, N, &signer, Some(verifier.clone()))?,
-            protocol: crate::protocol(),
             replica: Replica::restore(&saved.replica).map_err(io::Error::other)?,
             verifier,
             signatures: Signatures::new(signer, u32::from(N), saved.signatures),
@@ -191,14 +208,14 @@ impl Host {
 
     fn take(&mut self, from: u16, bytes: &[u8]) -> io::Result<()> {
         match Frame::decode(bytes) {
-            Some(Frame::Record { record, signatures, contents }) => {
-                self.take_record(Incoming { from, record, signatures, contents })
+            Some(Frame::Record { record, signatures, block }) => {
+                self.take_record(Incoming { from, record, signatures, block })
             }
             Some(Frame::Ask { above, name }) => {
                 self.answer(from, above, &name);
                 Ok(())
             }
-            Some(Frame::Chain(chain)) => self.take_chain(&chain),
+            Some(Frame::Chain(chain)) => self.take_chain(chain),
             None => {
                 self.counts.no_frame += 1;
                 Ok(())
@@ -211,17 +228,20 @@ impl Host {
         if !self.permits(&incoming, &statements) {
             return Ok(());
         }
-        let is_proposal = matches!(wire::read(&incoming.record, u32::from(N)), Ok(Record::Proposal(_)));
-        let contents = incoming.contents.filter(|_| is_proposal);
-        let known = Known { statements, signatures: incoming.signatures.clone(), contents };
-        match (self.call(Call::Record(&incoming.record), known)?, contents) {
-            (Ok(()), _) => self.hold_unknown(incoming.contents),
-            (Err(Refusal::ParentMissing), Some(contents)) => {
-                self.ask(contents.parent);
+        let proposed = incoming.proposed();
+        let parent = proposed.as_ref().map(|(_, block)| block.parent);
+        let known = Known { statements, signatures: incoming.signatures.clone(), block: proposed };
+        match (self.call(Call::Record(&incoming.record, incoming.contents()), known)?, parent) {
+            (Ok(()), None) => match incoming.voted() {
+                Some((name, block)) => self.hold_unknown(name, block),
+                None => Ok(()),
+            },
+            (Err(Refusal::ParentMissing), Some(parent)) => {
+                self.ask(parent);
                 self.wait(incoming);
                 Ok(())
             }
-            (Err(_), _) => Ok(()),
+            _ => Ok(()),
         }
     }
 
@@ -236,8 +256,8 @@ impl Host {
             &mut counts.foreign
         } else if !self.verifier.verify_all(statements, &incoming.signatures) {
             &mut counts.unsigned
-        } else if !is_named(&record, incoming.contents) {
-            &mut counts.misnamed
+        } else if matches!(record, Record::Proposal(_)) && incoming.block.is_none() {
+            &mut counts.bare // its name couldn't be checked
         } else {
             return true;
         };
@@ -273,18 +293,17 @@ impl Host {
     }
 
     /// The block asked for, and those below it: names tell that they are the right ones.
-    fn take_chain(&mut self, chain: &[Contents]) -> io::Result<()> {
-        let is_linked = chain.windows(2).all(|pair| pair[0].parent == pair[1].name());
-        if !is_linked {
+    fn take_chain(&mut self, chain: Vec<FullBlock>) -> io::Result<()> {
+        let Some(chain) = linked(chain) else {
             self.counts.no_frame += 1;
             return Ok(());
-        }
+        };
         // Several answer: the first is taken.
-        if chain.first().and_then(|top| self.asked.remove(&top.name())).is_none() {
+        if chain.first().and_then(|(top, _)| self.asked.remove(top)).is_none() {
             return Ok(());
         }
-        for contents in chain.iter().rev() {
-            self.hold_unknown(Some(*contents))?;
+        for (name, block) in chain.into_iter().rev() {
+            self.hold_unknown(name, block)?;
         }
         for incoming in std::mem::take(&mut self.waiting) {
             self.take_record(incoming)?;
@@ -292,16 +311,25 @@ impl Host {
         Ok(())
     }
 
-    /// Hands in a block that isn't held yet, as a record of kind 8.
-    fn hold_unknown(&mut self, contents: Option<Contents>) -> io::Result<()> {
-        let Some(contents) = contents.filter(|contents| !self.blocks.has(&contents.name())) else { return Ok(()) };
-        let mut record = Vec::new();
-        wire::write_block(&mut record, self.options.own, &contents.block());
-        let known = Known { contents: Some(contents), ..Known::default() };
-        if self.call(Call::Record(&record), known)? == Err(Refusal::ParentMissing) {
-            self.ask(contents.name());
+    /// Hands in a block that isn't held yet, as a record of kind 8 with its contents.
+    fn hold_unknown(&mut self, name: Name, block: FullBlock) -> io::Result<()> {
+        if self.blocks.has(&name) {
+            return Ok(());
+        }
+        let record = block.record(self.options.own, name);
+        let known = Known { block: Some((name, block.clone())), ..Known::default() };
+        if self.call(Call::Record(&record, Some(Contents(&block.contents))), known)? == Err(Refusal::ParentMissing) {
+            self.ask(name);
         }
         Ok(())
+    }
+
+    /// Forgets the blocks that the replica dropped. It holds others, and released ones are asked for by those who come
+    /// late.
+    fn forget_dropped(&mut self) {
+        let held = self.replica.held().iter().map(|block| block.name.bytes);
+        let kept: HashSet<Name> = held.chain(self.row.iter().map(|release| release.name)).collect();
+        self.blocks.retain(&kept);
     }
 
     // ------------------------------------------------------------ clock and turn
@@ -337,21 +365,26 @@ impl Host {
             && self.clock.may_propose()
     }
 
+    /// The library makes the name; where it lacks the safe block, that is one of those that the entry certificate names.
     fn propose(&mut self) -> io::Result<()> {
-        let entry = entry_record(&self.replica);
-        let parent = match wire::read_progress(&entry) {
-            Progress::Block(certificate) => certificate.name,
-            Progress::Timeouts(certificate) => self.protocol.safe_certificate(certificate.timeouts).name,
-        };
-        let Some(height) = self.blocks.height(&parent) else {
-            self.ask(parent);
-            return Ok(());
-        };
-        let payload = u64::from(self.options.own) << 48 | self.counts.calls;
-        let contents = Contents { parent, height: height + 1, view: self.replica.view().0, payload };
-        let known = Known { contents: Some(contents), ..Known::default() };
-        _ = self.call(Call::Propose(contents.name()), known)?;
+        let contents = self.next_contents();
+        if self.call(Call::Propose(Contents(&contents)), Known::default())? == Err(Refusal::ParentMissing) {
+            let names = self.replica.entry().map(|entry| entry.names()).unwrap_or_default();
+            names.into_iter().for_each(|name| self.ask(name.bytes));
+        }
         Ok(())
+    }
+
+    /// Contents of any length, no two alike: the view and a number of its own stand first.
+    fn next_contents(&self) -> Vec<u8> {
+        let number = u64::from(self.options.own) << 48 | self.counts.calls;
+        let mut contents = [self.replica.view().0, number].map(u64::to_le_bytes).concat();
+        let length = match self.counts.calls % 8 {
+            0 => raw::CONTENTS,
+            short => contents.len() + 11 * short as usize,
+        };
+        contents.resize(length, 0);
+        contents
     }
 
     // ------------------------------------------------------------ one call
@@ -359,9 +392,10 @@ impl Host {
     /// Calls the replica, saves, sends.
     fn call(&mut self, call: Call<'_>, known: Known) -> io::Result<Result<(), Refusal>> {
         let reply = match call {
-            Call::Record(record) => self.replica.record(record),
+            Call::Record(record, Some(contents)) => self.replica.record_with(record, contents),
+            Call::Record(record, None) => self.replica.record(record),
             Call::Timer(view) => self.replica.timer(replica::View(view)),
-            Call::Propose(name) => self.replica.propose(replica::Name { bytes: name }),
+            Call::Propose(contents) => self.replica.propose_contents(contents).map(|(_, accepted)| accepted),
         };
         // What is written is part of what is saved, so it is read before; nothing of it leaves before the save.
         let output = match reply {
@@ -372,8 +406,15 @@ impl Host {
             }
         };
         self.learn(known);
+        if let Call::Propose(contents) = call {
+            self.learn_own(&output, contents);
+        }
         self.counts.calls += 1;
+        let released = self.row.len();
         let sendings: Vec<Sending> = output.iter().filter_map(|written| self.pack(written)).collect();
+        if self.row.len() > released {
+            self.forget_dropped();
+        }
         self.made += u64::from(!sendings.is_empty());
         self.keep(&sendings);
         let sends_first = self.options.breach == Some(Breach::SendsFirst);
@@ -395,8 +436,18 @@ impl Host {
 
     fn learn(&mut self, known: Known) {
         self.signatures.learn(known.statements, &known.signatures);
-        if let Some(contents) = known.contents {
-            self.blocks.learn(contents);
+        if let Some((name, block)) = known.block {
+            self.blocks.learn(name, block);
+        }
+    }
+
+    /// The block of an own proposal is what the record says that the call wrote.
+    fn learn_own(&mut self, output: &[Written], contents: Contents<'_>) {
+        for written in output {
+            if let Ok(Record::Proposal(proposal)) = wire::read(&written.record, u32::from(N)) {
+                let (name, block) = full(&proposal.block, contents.0);
+                self.blocks.learn(name, block);
+            }
         }
     }
 
@@ -418,15 +469,15 @@ impl Host {
         Some(Sending { to, frame: frame.encode() })
     }
 
-    /// A record with its signatures, and with the contents of the block that it proposes or votes for.
+    /// A record with its signatures, and with the block that it proposes or votes for.
     fn sign(&mut self, record: &[u8]) -> Option<Frame> {
         let Some(signatures) = self.signatures.gather(record) else {
             self.counts.unbacked += 1;
             return None;
         };
         let is_named = matches!(wire::kind_of(record), kind::VOTE | kind::PROPOSAL);
-        let contents = is_named.then(|| self.blocks.get(&wire::name_at(record, 16)).copied()).flatten();
-        Some(Frame::Record { record: record.to_vec(), signatures, contents })
+        let block = is_named.then(|| self.blocks.get(&wire::name_at(record, 16)).cloned()).flatten();
+        Some(Frame::Record { record: record.to_vec(), signatures, block })
     }
 
     fn release(&mut self, record: &[u8]) {
@@ -451,7 +502,7 @@ impl Host {
             counts: self.counts.clone(),
             view: self.replica.view().0,
             row: self.row.clone(),
-            blocks: self.blocks.0.values().copied().collect(),
+            blocks: self.blocks.0.values().cloned().collect(),
             replica: self.replica.save(),
             outbox: self.outbox.iter().cloned().collect(),
             signatures: self.signatures.known().iter().map(|(statement, tag)| (statement.clone(), *tag)).collect(),
@@ -505,13 +556,9 @@ fn is_straight(record: &Record<'_>) -> bool {
     matches!(record, Vote { .. } | Commit { .. } | Timeout { .. } | Proposal(_))
 }
 
-/// Whether the block that a record proposes or votes for comes with it, and is what its name says.
-fn is_named(record: &Record<'_>, contents: Option<Contents>) -> bool {
-    match record {
-        Record::Vote { vote, .. } => contents.is_some_and(|contents| contents.name() == vote.name),
-        Record::Proposal(proposal) => contents.is_some_and(|contents| contents.block() == proposal.block),
-        _ => contents.is_none(),
-    }
+/// A block with these contents, and its name.
+fn full(block: &Block, contents: &[u8]) -> (Name, FullBlock) {
+    (block.name, FullBlock { parent: block.parent, height: block.height.0, contents: contents.to_vec() })
 }
 
 /// A record that a call wrote, and where it goes.

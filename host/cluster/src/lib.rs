@@ -5,9 +5,9 @@
 //! at the end compares the rows of releases ([`rows`]); all along it looks for an honest replica that signed two
 //! records of a kind for a view, or sent one before it was saved ([`promises`]).
 //!
-//! What a real host has, and what stands for it here: for signatures keyed hashes ([`card`]), for a hash function
-//! std's hasher ([`contents`]), for the network loopback. A host hands a record in only if every signature in it is
-//! right, if it comes from its sender (kinds 1, 2, 5, 7), and if the block is what its name says.
+//! What a real host has, and what stands for it here: for signatures keyed hashes ([`card`]), for the network loopback.
+//! A host hands a record in only if every signature in it is right, if it comes from its sender (kinds 1, 2, 5, 7), and
+//! a proposal or a block only with its contents ([`contents`]): the library checks its name.
 
 pub mod byzantine;
 pub mod card;

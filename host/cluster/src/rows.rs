@@ -2,7 +2,7 @@
 
 use std::fmt;
 
-use oracle::GENESIS;
+use oracle::{Name, GENESIS};
 use replica::Replica;
 
 use crate::contents::Blocks;
@@ -13,6 +13,8 @@ pub struct Row {
     pub replica: u16,
     pub releases: Vec<Release>,
     pub blocks: Blocks,
+    /// The blocks that the saved replica holds.
+    pub held: Vec<Name>,
     /// The tip of the saved replica: its height and name.
     pub tip: (u64, [u8; 32]),
 }
@@ -26,6 +28,8 @@ pub enum Violation {
     Parent { replica: u16, height: u64 },
     /// The row doesn't end with the replica's tip.
     Tip { replica: u16 },
+    /// The host hasn't kept the contents of a block that its replica holds.
+    Contents { replica: u16 },
     /// Two rows differ at this height.
     TwoChains { replicas: [u16; 2], height: u64 },
     /// An honest replica signed two records of this kind for this view.
@@ -40,6 +44,7 @@ impl fmt::Display for Violation {
             Violation::Height { replica, expected } => write!(f, "row {replica} has no height {expected}"),
             Violation::Parent { replica, height } => write!(f, "row {replica}: wrong parent at height {height}"),
             Violation::Tip { replica } => write!(f, "row {replica} doesn't end with the tip"),
+            Violation::Contents { replica } => write!(f, "replica {replica} holds a block whose contents are lost"),
             Violation::TwoChains { replicas: [one, other], height } => {
                 write!(f, "two chains: rows {one} and {other} differ at height {height}")
             }
@@ -58,13 +63,14 @@ impl std::error::Error for Violation {}
 impl Row {
     /// The row in a state file; none where the replica in it can't be restored.
     pub fn of(replica: u16, saved: &Saved) -> Option<Row> {
-        let tip = Replica::restore(&saved.replica).ok()?.tip();
-        let tip = (tip.height.0, tip.name.bytes);
-        let blocks = Blocks::new(saved.blocks.iter().copied());
-        Some(Row { replica, releases: saved.row.clone(), blocks, tip })
+        let restored = Replica::restore(&saved.replica).ok()?;
+        let tip = (restored.tip().height.0, restored.tip().name.bytes);
+        let held = restored.held().iter().map(|block| block.name.bytes).collect();
+        let blocks = Blocks::new(saved.blocks.iter().cloned());
+        Some(Row { replica, releases: saved.row.clone(), blocks, held, tip })
     }
 
-    /// Heights, parents and the end of one row.
+    /// Heights, parents and the end of one row, and the contents of what is held above it.
     fn check(&self) -> Result<(), Violation> {
         let replica = self.replica;
         let mut before = GENESIS;
@@ -72,15 +78,18 @@ impl Row {
             if release.height != expected {
                 return Err(Violation::Height { replica, expected });
             }
-            // The name is the hash of these contents, so the parent is the block's own.
+            // The name is the digest of this block, so the parent is its own.
             let block = self.blocks.get(&release.name);
-            if block.is_none_or(|contents| contents.parent != before || contents.height != expected) {
+            if block.is_none_or(|block| block.parent != before || block.height != expected) {
                 return Err(Violation::Parent { replica, height: expected });
             }
             before = release.name;
         }
         if self.tip != (self.releases.len() as u64, before) {
             return Err(Violation::Tip { replica });
+        }
+        if !self.held.iter().all(|name| self.blocks.has(name)) {
+            return Err(Violation::Contents { replica });
         }
         Ok(())
     }
@@ -104,16 +113,18 @@ pub fn check(rows: &[Row]) -> Result<(), Violation> {
 #[cfg(test)]
 mod tests {
     use super::*;
-    use crate::contents::Contents;
+    use crate::contents::FullBlock;
 
-    /// A row of blocks with these payloads.
-    fn row(replica: u16, payloads: &[u64]) -> Row {
-        let mut row = Row { replica, releases: Vec::new(), blocks: Blocks::default(), tip: (0, GENESIS) };
-        for (height, payload) in (1..).zip(payloads) {
-            let contents = Contents { parent: row.tip.1, height, view: height, payload: *payload };
-            row.blocks.learn(contents);
-            row.releases.push(Release { view: height, name: contents.name(), height });
-            row.tip = (height, contents.name());
+    /// A row of blocks with these contents, a byte each.
+    fn row(replica: u16, contents: &[u8]) -> Row {
+        let (releases, blocks) = (Vec::new(), Blocks::default());
+        let mut row = Row { replica, releases, blocks, held: Vec::new(), tip: (0, GENESIS) };
+        for (height, byte) in (1..).zip(contents) {
+            let block = FullBlock { parent: row.tip.1, height, contents: vec![*byte] };
+            let name = block.name().expect("a name");
+            row.blocks.learn(name, block);
+            row.releases.push(Release { view: height, name, height });
+            row.tip = (height, name);
         }
         row
     }
@@ -156,5 +167,12 @@ mod tests {
         let mut lost = row(0, &[1, 2]);
         lost.releases.pop();
         assert_eq!(check(&[lost]), Err(Violation::Tip { replica: 0 }));
+    }
+
+    #[test]
+    fn contents_of_a_held_block_lost() {
+        let mut lost = row(0, &[1, 2]);
+        lost.held.push([7; 32]);
+        assert_eq!(check(&[lost]), Err(Violation::Contents { replica: 0 }));
     }
 }

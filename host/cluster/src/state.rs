@@ -12,7 +12,7 @@ use oracle::Name;
 
 use crate::card::{Signature, Statement};
 use crate::codec::{Reader, Writer};
-use crate::contents::Contents;
+use crate::contents::FullBlock;
 
 /// What happened so far, for the summary.
 #[derive(Clone, Debug, Default, PartialEq, Eq)]
@@ -22,23 +22,23 @@ pub struct Counts {
     /// Records sent, once for each receiver.
     pub sent: u64,
     /// Refused calls, by number.
-    pub refused: [u64; 16],
+    pub refused: [u64; 18],
     /// Frames that no call was made for: no frame at all, or one that nobody asked for.
     pub no_frame: u64,
     /// Records straight from another than their sender.
     pub foreign: u64,
     /// Records with a signature missing or wrong.
     pub unsigned: u64,
-    /// Records whose block isn't what its name says.
-    pub misnamed: u64,
+    /// Proposals without their block's contents.
+    pub bare: u64,
     /// Own records that couldn't be sent for want of another's signature: there should be none.
     pub unbacked: u64,
 }
 
 impl Counts {
     fn numbers(&mut self) -> Vec<&mut u64> {
-        let Counts { calls, sent, refused, no_frame, foreign, unsigned, misnamed, unbacked } = self;
-        [calls, sent, no_frame, foreign, unsigned, misnamed, unbacked].into_iter().chain(refused).collect()
+        let Counts { calls, sent, refused, no_frame, foreign, unsigned, bare, unbacked } = self;
+        [calls, sent, no_frame, foreign, unsigned, bare, unbacked].into_iter().chain(refused).collect()
     }
 
     pub fn add(&mut self, mut other: Counts) {
@@ -68,7 +68,7 @@ pub struct Saved {
     pub counts: Counts,
     pub view: u64,
     pub row: Vec<Release>,
-    pub blocks: Vec<Contents>,
+    pub blocks: Vec<FullBlock>,
     pub replica: Vec<u8>,
     pub outbox: Vec<Sending>,
     pub signatures: Vec<(Statement, Signature)>,
@@ -82,7 +82,7 @@ impl Saved {
         out.list(self.row.iter(), |out, release| {
             out.number(release.view).fixed(&release.name).number(release.height);
         });
-        out.list(self.blocks.iter(), |out, contents| contents.write(out));
+        out.list(self.blocks.iter(), |out, block| block.write(out));
         out.bytes(&self.replica);
         out.list(self.outbox.iter(), |out, sending| {
             out.list(sending.to.iter(), |out, to| _ = out.number(u64::from(*to))).bytes(&sending.frame);
@@ -104,7 +104,7 @@ impl Saved {
         let view = bytes.number()?;
         let row = bytes
             .list(|bytes| Some(Release { view: bytes.number()?, name: bytes.fixed()?, height: bytes.number()? }))?;
-        let blocks = bytes.list(Contents::read)?;
+        let blocks = bytes.list(FullBlock::read)?;
         let replica = bytes.bytes()?.to_vec();
         let outbox = bytes.list(|bytes| {
             let to = bytes.list(read_u16)?.pop();
@@ -171,13 +171,13 @@ mod tests {
 
     fn saved() -> Saved {
         let mut counts = Counts { calls: 1, sent: 2, ..Counts::default() };
-        counts.refused[15] = 3;
-        let contents = Contents { parent: [4; 32], height: 5, view: 6, payload: 7 };
+        counts.refused[17] = 3;
+        let block = FullBlock { parent: [4; 32], height: 5, contents: vec![6; 7] };
         Saved {
             counts,
             view: 8,
             row: vec![Release { view: 9, name: [10; 32], height: 11 }],
-            blocks: vec![contents; 2],
+            blocks: vec![block; 2],
             replica: vec![12; 100],
             outbox: vec![Sending { to: None, frame: vec![13] }, Sending { to: Some(5), frame: vec![] }],
             signatures: vec![(Statement { signer: 14, bytes: vec![15; 48] }, [16; 16])],

@@ -29,7 +29,8 @@ fn all_honest() {
     assert_eq!(summary.standings.len(), usize::from(N));
     assert!(summary.standings.iter().all(|standing| standing.releases >= 10), "{summary}");
     let counts = &summary.counts;
-    assert_eq!([counts.unsigned, counts.foreign, counts.misnamed, counts.no_frame, counts.unbacked], [0; 5]);
+    assert_eq!([counts.unsigned, counts.foreign, counts.bare, counts.no_frame, counts.unbacked], [0; 5]);
+    assert_eq!(counts.refused[16..], [0; 2], "honest hosts hand on the contents that a name is made of");
 }
 
 /// One Byzantine, one stopped for good, one killed at each point of a call and at other times.
@@ -45,9 +46,9 @@ fn one_byzantine_one_stopped_one_restarted() {
     }
     let counts = &summary.counts;
     assert_eq!(counts.unbacked, 0);
-    // The Byzantine process did its work: it was refused by the replicas (votes for two names, garbage) and by their
-    // hosts.
-    for number in [3, 11] {
+    // The Byzantine process did its work: it was refused by the replicas (votes for two names, garbage, contents that are
+    // too long or that a name isn't made of) and by their hosts.
+    for number in [3, 11, 16, 17] {
         assert!(counts.refused[number] > 0, "refusal {number}\n{summary}");
     }
     assert!(counts.unsigned > 0 && counts.no_frame > 0, "{summary}");
