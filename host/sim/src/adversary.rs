@@ -7,6 +7,7 @@ use oracle::wire::{self, Timeouts};
 use oracle::{members, Block, Certificate, Height, Leaders, Name, Protocol, Timeout, View, Vote};
 
 use crate::ledger::{makers, Ledger};
+use crate::naming::Naming;
 use crate::random::Random;
 
 /// A record and the honest replicas that get it.
@@ -17,11 +18,15 @@ pub struct Lie {
     pub equivocates: bool,
 }
 
+/// A name that others have is taken so many times in a thousand, where contents tell.
+const TAKEN: u32 = 50;
+
 pub struct Adversary {
     protocol: Protocol,
     leaders: Leaders,
     liars: u64,
     proposals: Vec<Planted>,
+    naming: Naming,
 }
 
 /// A proposal that it made.
@@ -35,8 +40,12 @@ struct Planted {
 const BACK: u64 = 4;
 
 impl Adversary {
-    pub fn new(protocol: Protocol, leaders: Leaders, liars: u64) -> Adversary {
-        Adversary { protocol, leaders, liars, proposals: Vec::new() }
+    pub fn new(protocol: Protocol, leaders: Leaders, liars: u64, naming: Naming) -> Adversary {
+        Adversary { protocol, leaders, liars, proposals: Vec::new(), naming }
+    }
+
+    pub fn naming(&mut self) -> &mut Naming {
+        &mut self.naming
     }
 
     pub fn liars(&self) -> u64 {
@@ -261,12 +270,22 @@ impl Adversary {
     }
 
     /// A new block on the safe one; now and then its parent or height is wrong.
-    fn fresh_block(&self, ledger: &Ledger, view: u64, safe: Name, random: &mut Random) -> Option<Block> {
+    fn fresh_block(&mut self, ledger: &Ledger, view: u64, safe: Name, random: &mut Random) -> Option<Block> {
         let other = self.name_in(ledger, view - 1, random).filter(|_| random.chance(30));
         let parent = other.unwrap_or(safe);
         let known = ledger.block(&parent).copied().or_else(|| self.block(&parent))?;
         let height = Height(known.height.0 + 1 + u64::from(random.chance(30)));
-        Some(Block { name: self.fresh_name(random), parent, height })
+        let taken = self.taken_name(ledger, view - 1, random);
+        let name = taken.unwrap_or_else(|| self.fresh_name(parent, height, random));
+        Some(Block { name, parent, height })
+    }
+
+    /// Another block's name. Where names are invented the premises keep that out, and it isn't tried.
+    fn taken_name(&self, ledger: &Ledger, view: u64, random: &mut Random) -> Option<Name> {
+        if !self.naming.is_by_contents() || !random.chance(TAKEN) {
+            return None;
+        }
+        self.name_in(ledger, view, random)
     }
 
     /// A progress certificate of a view and its safe certificate.
@@ -288,20 +307,24 @@ impl Adversary {
     }
 
     /// Half of them small, since the smaller name ranks above.
-    fn fresh_name(&self, random: &mut Random) -> Name {
-        let mut name = random.name();
+    fn fresh_name(&mut self, parent: Name, height: Height, random: &mut Random) -> Name {
+        let name = self.naming.name(parent, height, random);
         if random.chance(500) {
-            name[0] = 0;
+            self.naming.smaller(name, parent, height, random)
+        } else {
+            name
         }
-        name
     }
 
     /// A block of a view by itself, or a new one on it.
-    fn stray_block(&self, ledger: &Ledger, liar: u16, view: u64, random: &mut Random) -> Option<Lie> {
+    fn stray_block(&mut self, ledger: &Ledger, liar: u16, view: u64, random: &mut Random) -> Option<Lie> {
         let name = self.name_in(ledger, view, random)?;
         let mut block = *ledger.block(&name)?;
         if random.chance(500) {
-            block = Block { name: self.fresh_name(random), parent: name, height: Height(block.height.0 + 1) };
+            let height = Height(block.height.0 + 1);
+            let taken = self.taken_name(ledger, view, random);
+            let fresh = taken.unwrap_or_else(|| self.fresh_name(name, height, random));
+            block = Block { name: fresh, parent: name, height };
         }
         let mut record = Vec::new();
         wire::write_block(&mut record, liar, &block);

@@ -1,16 +1,18 @@
 //! A cluster of honest replicas under the premises of 01's "A run of the ring": every call goes through here, and
 //! after each one the claim of demand 3 is checked.
 
+use std::collections::HashMap;
 use std::rc::Rc;
 
 use oracle::wire::{self, kind};
-use oracle::{Leaders, Name, Protocol, View};
+use oracle::{block_name, Leaders, Name, Protocol, View};
 
 use crate::chain::{Rows, Violation};
 use crate::core::Core;
 use crate::coverage::{Call, Coverage, Row, Tally};
 use crate::leaders;
 use crate::ledger::Ledger;
+use crate::naming::Naming;
 
 /// 01: "The output region has 32,768 bytes; each call's output must be shown to fit."
 const OUTPUT: usize = 32_768;
@@ -54,6 +56,8 @@ pub struct Cluster<C: Core> {
     ledger: Ledger,
     rows: Rows,
     output: Vec<u8>,
+    /// The contents of own proposals, in a run in which every block comes with its contents.
+    contents: Option<HashMap<Name, Rc<[u8]>>>,
     /// What the last accepted call sent, releases left out.
     pub sent: Vec<Rc<[u8]>>,
     pub coverage: Coverage,
@@ -81,10 +85,29 @@ impl<C: Core> Cluster<C> {
             ledger: Ledger::new(n as u32, settings.everyone() & !byzantine),
             rows: Rows::new(n as usize),
             output: Vec::with_capacity(OUTPUT),
+            contents: None,
             sent: Vec::new(),
             coverage,
             calls: 0,
         }
+    }
+
+    /// The same for a run whose names are made so. By contents no block is taken without them: 02's "every honest box of
+    /// the ring takes only checked blocks, own proposals included".
+    pub fn named(mut self, naming: &Naming) -> Cluster<C> {
+        self.contents = naming.is_by_contents().then(HashMap::new);
+        self.coverage.add(Row::ByContents, u64::from(self.is_checked()));
+        self
+    }
+
+    /// Whether every block comes with its contents.
+    pub fn is_checked(&self) -> bool {
+        self.contents.is_some()
+    }
+
+    /// The contents of a block that an honest replica proposed.
+    pub fn contents(&self, name: &Name) -> Option<Rc<[u8]>> {
+        self.contents.as_ref()?.get(name).cloned()
     }
 
     pub fn protocol(&self) -> &Protocol {
@@ -135,7 +158,12 @@ impl<C: Core> Cluster<C> {
 
     pub fn record(&mut self, replica: usize, bytes: &[u8]) -> Outcome {
         let permitted = self.ledger.permits(bytes);
-        self.call(replica, Call::Record(bytes), permitted)
+        self.call(replica, Call::Record(bytes, None), permitted)
+    }
+
+    pub fn record_with(&mut self, replica: usize, bytes: &[u8], contents: &[u8]) -> Outcome {
+        let permitted = self.ledger.permits(bytes);
+        self.call(replica, Call::Record(bytes, Some(contents)), permitted)
     }
 
     pub fn timer(&mut self, replica: usize, view: u64) -> Outcome {
@@ -145,7 +173,16 @@ impl<C: Core> Cluster<C> {
     pub fn propose(&mut self, replica: usize, name: Name) -> Outcome {
         // A known name might come out with another parent than the one that the run has fixed.
         let fresh = self.ledger.block(&name).is_none();
-        self.call(replica, Call::Propose(name), fresh)
+        self.call(replica, Call::Propose(name, None), fresh)
+    }
+
+    /// Any name may be given: with contents the right one alone is taken.
+    pub fn propose_with(&mut self, replica: usize, name: Name, contents: &[u8]) -> Outcome {
+        self.call(replica, Call::Propose(name, Some(contents)), true)
+    }
+
+    pub fn propose_contents(&mut self, replica: usize, contents: &[u8]) -> Outcome {
+        self.call(replica, Call::ProposeContents(contents), true)
     }
 
     /// An opening that is refused: own number n, another n than the settings give, or a list that isn't taken. Writes
@@ -195,6 +232,9 @@ impl<C: Core> Cluster<C> {
         output.clear();
         self.sent.clear();
         let answer = perform(self.replica_mut(replica), &call, &mut output);
+        if answer == 0 {
+            self.assert_named(&call, &output);
+        }
         let outcome = match (answer, saved) {
             (0, Some(saved)) => {
                 self.restore(replica, saved);
@@ -215,10 +255,30 @@ impl<C: Core> Cluster<C> {
         outcome
     }
 
+    /// Where blocks come with their contents, the premise on names isn't asked for, it is found to hold: the name of an
+    /// accepted block or an own proposal is the digest, and the run has given it no other parent or height.
+    fn assert_named(&self, call: &Call<'_>, output: &[u8]) {
+        let brought = match call {
+            Call::Record(bytes, _) => Some(*bytes),
+            _ => None,
+        };
+        for record in brought.into_iter().chain(wire::records(output)) {
+            match (self.ledger.block_in(record), call.contents()) {
+                (Some(_), None) => assert!(!self.is_checked(), "a block was taken without its contents"),
+                (Some(block), Some(contents)) => {
+                    let digest = block_name(block.parent, block.height, contents);
+                    assert!(digest == Ok(block.name), "a block was taken whose name isn't the digest");
+                    assert!(self.ledger.permits_block(&block), "two blocks of one name");
+                }
+                (None, _) => {}
+            }
+        }
+    }
+
     /// Enters an accepted call into the books and checks the claim.
     fn finish(&mut self, replica: usize, view: u64, call: &Call<'_>, output: &[u8]) {
         assert!(output.len() <= OUTPUT);
-        if let Call::Record(bytes) = call {
+        if let Call::Record(bytes, _) = call {
             self.ledger.accept(bytes);
             self.tallies[replica].note(bytes);
         }
@@ -228,12 +288,21 @@ impl<C: Core> Cluster<C> {
                 let record: Rc<[u8]> = Rc::from(record);
                 self.ledger.make(replica, &record);
                 self.tallies[replica].note(&record);
+                self.keep_contents(&record, call);
                 self.sent.push(record);
             }
         }
         self.take_releases(replica, output);
         self.coverage.accepted(&self.protocol, view, call, output);
         self.coverage.add(Row::Skipped, (self.view(replica) - view).saturating_sub(1));
+    }
+
+    /// A host keeps the contents of what its replica proposes: whoever gets the proposal or asks for the block gets them.
+    fn keep_contents(&mut self, made: &[u8], call: &Call<'_>) {
+        if let (kind::PROPOSAL, Some(book), Some(contents)) = (wire::kind_of(made), &mut self.contents, call.contents())
+        {
+            book.insert(wire::name_at(made, 16), Rc::from(contents));
+        }
     }
 
     fn take_releases(&mut self, replica: usize, output: &[u8]) {
@@ -260,8 +329,11 @@ impl<C: Core> Cluster<C> {
 
 fn perform<C: Core>(replica: &mut C, call: &Call<'_>, output: &mut Vec<u8>) -> u16 {
     match call {
-        Call::Record(bytes) => replica.record(bytes, output),
+        Call::Record(bytes, None) => replica.record(bytes, output),
+        Call::Record(bytes, Some(contents)) => replica.record_with(bytes, contents, output),
         Call::Timer(view) => replica.timer(*view, output),
-        Call::Propose(name) => replica.propose(*name, output),
+        Call::Propose(name, None) => replica.propose(*name, output),
+        Call::Propose(name, Some(contents)) => replica.propose_with(*name, contents, output),
+        Call::ProposeContents(contents) => replica.propose_contents(contents, output),
     }
 }

@@ -1,5 +1,10 @@
 //! What the simulation asks of a replica.
 
+use oracle::wire::{self, Progress};
+use replica::Contents;
+
+use crate::beside;
+
 /// One replica as a step machine: calls over bytes and numbers. To save is to clone, to restore is to put the clone
 /// back. A refused call changes nothing and writes nothing.
 pub trait Core: Clone {
@@ -13,6 +18,12 @@ pub trait Core: Clone {
     fn record(&mut self, bytes: &[u8], output: &mut Vec<u8>) -> u16;
     fn timer(&mut self, view: u64, output: &mut Vec<u8>) -> u16;
     fn propose(&mut self, name: [u8; 32], output: &mut Vec<u8>) -> u16;
+
+    /// The same with contents: of the block, where a record brings one.
+    fn record_with(&mut self, bytes: &[u8], contents: &[u8], output: &mut Vec<u8>) -> u16;
+    fn propose_with(&mut self, name: [u8; 32], contents: &[u8], output: &mut Vec<u8>) -> u16;
+    /// Proposes contents by the name that they make on the safe block.
+    fn propose_contents(&mut self, contents: &[u8], output: &mut Vec<u8>) -> u16;
 
     fn view(&self) -> u64;
     /// The highest view that it sent a timeout for.
@@ -42,6 +53,22 @@ impl Core for oracle::Replica {
         oracle::answer(oracle::Replica::propose(self, name, output))
     }
 
+    // The oracle's own calls with contents are to be joined here; `beside.rs` goes then.
+    fn record_with(&mut self, bytes: &[u8], contents: &[u8], output: &mut Vec<u8>) -> u16 {
+        beside::record_with(self, bytes, contents, output)
+    }
+
+    fn propose_with(&mut self, name: [u8; 32], contents: &[u8], output: &mut Vec<u8>) -> u16 {
+        beside::propose_with(self, name, next_block(self), contents, output)
+    }
+
+    /// It knows the safe block; the library's crate tries those that may be it.
+    fn propose_contents(&mut self, contents: &[u8], output: &mut Vec<u8>) -> u16 {
+        let block = next_block(self).unwrap_or(oracle::Block::GENESIS);
+        let name = oracle::block_name(block.parent, block.height, contents).unwrap_or(oracle::GENESIS);
+        Core::propose_with(self, name, contents, output)
+    }
+
     fn view(&self) -> u64 {
         self.counters.view.0
     }
@@ -53,6 +80,16 @@ impl Core for oracle::Replica {
     fn height(&self) -> u64 {
         self.counters.tip.height.0
     }
+}
+
+/// What a proposal would be, but for its name; none where the safe block isn't held.
+fn next_block(replica: &oracle::Replica) -> Option<oracle::Block> {
+    let safe = match wire::read_progress(replica.memory.entry.record()) {
+        Progress::Block(certificate) => certificate.name,
+        Progress::Timeouts(certificate) => replica.protocol().safe_certificate(certificate.timeouts).name,
+    };
+    let parent = replica.held(&safe)?;
+    Some(oracle::Block { name: oracle::GENESIS, parent: safe, height: oracle::Height(parent.height.0 + 1) })
 }
 
 /// The proved library. Its replica isn't to be cloned by a host that runs it; here a clone is a save that is restored.
@@ -99,6 +136,18 @@ impl Core for Proved {
 
     fn propose(&mut self, name: [u8; 32], output: &mut Vec<u8>) -> u16 {
         answer(self.0.propose(replica::Name { bytes: name }), output)
+    }
+
+    fn record_with(&mut self, bytes: &[u8], contents: &[u8], output: &mut Vec<u8>) -> u16 {
+        answer(self.0.record_with(bytes, Contents(contents)), output)
+    }
+
+    fn propose_with(&mut self, name: [u8; 32], contents: &[u8], output: &mut Vec<u8>) -> u16 {
+        answer(self.0.propose_with(replica::Name { bytes: name }, Contents(contents)), output)
+    }
+
+    fn propose_contents(&mut self, contents: &[u8], output: &mut Vec<u8>) -> u16 {
+        answer(self.0.propose_contents(Contents(contents)).map(|(_, accepted)| accepted), output)
     }
 
     fn view(&self) -> u64 {

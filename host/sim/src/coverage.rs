@@ -5,13 +5,29 @@ use std::fmt;
 use oracle::wire::{self, kind, Progress, Record, Timeouts};
 use oracle::{Certificate, CertificateKind, Name, Protocol};
 
-/// A call on a replica.
+/// A call on a replica, with contents or without.
 #[derive(Clone, Copy, Debug)]
 pub enum Call<'a> {
-    Record(&'a [u8]),
+    Record(&'a [u8], Option<&'a [u8]>),
     Timer(u64),
-    Propose(Name),
+    Propose(Name, Option<&'a [u8]>),
+    /// By the name that these contents make.
+    ProposeContents(&'a [u8]),
 }
+
+impl<'a> Call<'a> {
+    /// The contents that it comes with.
+    pub fn contents(&self) -> Option<&'a [u8]> {
+        match *self {
+            Call::Record(_, contents) | Call::Propose(_, contents) => contents,
+            Call::ProposeContents(contents) => Some(contents),
+            Call::Timer(_) => None,
+        }
+    }
+}
+
+/// Answers go up to 17.
+const ANSWERS: usize = 18;
 
 /// Columns of the table of answers.
 const COLUMNS: [&str; 11] =
@@ -25,9 +41,9 @@ impl Call<'_> {
     fn column(&self) -> usize {
         match self {
             Call::Timer(_) => TIMER,
-            Call::Propose(_) => PROPOSE,
-            Call::Record(bytes) if bytes.len() < wire::HEADER => OTHER,
-            Call::Record(bytes) => match wire::kind_of(bytes) {
+            Call::Propose(..) | Call::ProposeContents(_) => PROPOSE,
+            Call::Record(bytes, _) if bytes.len() < wire::HEADER => OTHER,
+            Call::Record(bytes, _) => match wire::kind_of(bytes) {
                 kind::VOTE => 0,
                 kind::COMMIT => 1,
                 kind::BLOCK_CERTIFICATE => 2,
@@ -100,11 +116,17 @@ pub enum Row {
     LedTwice,
     NeverLeads,
     LiarsLead,
+    ByContents,
+    OtherContents,
+    NoBytes,
+    LongContents,
+    ContentsBeside,
+    TakenName,
     Runs,
 }
 
 impl Row {
-    const ALL: [(Row, &'static str); 32] = [
+    const ALL: [(Row, &'static str); 38] = [
         (Row::RuleA, "rule A: timeout echoed"),
         (Row::RuleB, "rule B: timeout certificate formed"),
         (Row::RuleC, "rule C: block certificate formed (and sent)"),
@@ -136,19 +158,25 @@ impl Row {
         (Row::LedTwice, "leader list: with repeats"),
         (Row::NeverLeads, "leader list: an honest replica never leads"),
         (Row::LiarsLead, "leader list: Byzantine replicas lead most views"),
+        (Row::ByContents, "contents: runs in which every block comes with its own"),
+        (Row::OtherContents, "contents: a block with those of another"),
+        (Row::NoBytes, "contents: a block with contents of 0 bytes that aren't its own"),
+        (Row::LongContents, "contents: of more than 4,096 bytes"),
+        (Row::ContentsBeside, "contents: beside a record of another kind"),
+        (Row::TakenName, "contents: a block by another one's name, with that one's contents"),
         (Row::Runs, "runs"),
     ];
 }
 
 #[derive(Clone, Debug)]
 pub struct Coverage {
-    answers: [[u64; 16]; COLUMNS.len()],
+    answers: [[u64; ANSWERS]; COLUMNS.len()],
     rows: [u64; Row::ALL.len()],
 }
 
 impl Default for Coverage {
     fn default() -> Coverage {
-        Coverage { answers: [[0; 16]; COLUMNS.len()], rows: [0; Row::ALL.len()] }
+        Coverage { answers: [[0; ANSWERS]; COLUMNS.len()], rows: [0; Row::ALL.len()] }
     }
 }
 
@@ -174,6 +202,12 @@ impl Coverage {
         self.answers.iter().map(|column| column[usize::from(answer)]).sum()
     }
 
+    /// The same for one kind of call, as the table heads its column.
+    pub fn answered_to(&self, heading: &str, answer: u16) -> u64 {
+        let column = COLUMNS.iter().position(|column| *column == heading).expect("a column of the table");
+        self.answers[column][usize::from(answer)]
+    }
+
     pub fn merge(&mut self, other: &Coverage) {
         let cells = self.answers.iter_mut().flatten().zip(other.answers.iter().flatten());
         cells.for_each(|(cell, more)| *cell += more);
@@ -182,7 +216,8 @@ impl Coverage {
 
     /// What stands in the table and was never reached.
     pub fn empty_rows(&self) -> Vec<String> {
-        let answers = (0..16).filter(|&answer| self.answered(answer) == 0).map(|answer| format!("answer {answer}"));
+        let numbers = 0..ANSWERS as u16;
+        let answers = numbers.filter(|&answer| self.answered(answer) == 0).map(|answer| format!("answer {answer}"));
         let rows = Row::ALL.iter().filter(|(row, _)| self.count(*row) == 0).map(|(_, label)| label.to_string());
         answers.chain(rows).collect()
     }
@@ -197,8 +232,10 @@ impl Coverage {
         self.add(Row::RuleB, formed);
         self.add(Row::RuleC, count(kind::BLOCK_CERTIFICATE) - event.block_certificates);
         match call {
-            Call::Record(bytes) if wire::kind_of(bytes) == kind::TIMEOUT => self.add(Row::AThenB, echoed.min(formed)),
-            Call::Record(bytes) if wire::kind_of(bytes) == kind::VOTE => {
+            Call::Record(bytes, _) if wire::kind_of(bytes) == kind::TIMEOUT => {
+                self.add(Row::AThenB, echoed.min(formed));
+            }
+            Call::Record(bytes, _) if wire::kind_of(bytes) == kind::VOTE => {
                 self.add(Row::CThenD, u64::from(releases_fast_what_it_forms(protocol, output)));
             }
             _ => {}
@@ -213,9 +250,9 @@ impl Coverage {
 
     fn event(&mut self, protocol: &Protocol, view: u64, call: &Call<'_>) -> Event {
         let bytes = match call {
-            Call::Record(bytes) => bytes,
+            Call::Record(bytes, _) => bytes,
             Call::Timer(_) => return Event { timeouts: 1, ..Event::default() },
-            Call::Propose(_) => return Event::default(),
+            Call::Propose(..) | Call::ProposeContents(_) => return Event::default(),
         };
         let (progress, moves) = match wire::read(bytes, protocol.settings.n()) {
             Ok(Record::BlockCertificate { certificate, .. }) => {
@@ -275,7 +312,7 @@ impl fmt::Display for Coverage {
         write!(f, "{:>6} {:>10}", "answer", "all")?;
         COLUMNS.iter().try_for_each(|column| write!(f, " {column:>9}"))?;
         writeln!(f)?;
-        for answer in 0..16 {
+        for answer in 0..ANSWERS as u16 {
             write!(f, "{answer:>6} {:>10}", self.answered(answer))?;
             let cells = self.answers.iter().map(|column| column[usize::from(answer)]);
             for cell in cells {

@@ -3,12 +3,14 @@
 //! checked: the honest replicas' releases are one chain.
 
 mod adversary;
+mod beside;
 mod chain;
 mod cluster;
 mod core;
 mod coverage;
 mod leaders;
 mod ledger;
+mod naming;
 mod network;
 mod plan;
 mod random;
@@ -24,8 +26,9 @@ pub use chain::{Rows, Violation};
 pub use cluster::{Cluster, Outcome, RefusedOpening};
 pub use coverage::{Call, Coverage, Row, SafeKind};
 pub use ledger::{Backing, Ledger, Made};
+pub use naming::Naming;
 pub use network::Run;
-pub use plan::{Failure, Plan, Style};
+pub use plan::{Failure, Names, Plan, Style};
 pub use random::Random;
 pub use rounds::Rounds;
 pub use script::Script;

@@ -4,11 +4,11 @@ use std::process::ExitCode;
 use std::time::Instant;
 
 use oracle::{help, Faults, Leaders, Protocol, Replica, Settings};
-use sim::{scenarios, settings, Core, Coverage, Family, Plan, Proved, Script, Style};
+use sim::{scenarios, settings, Core, Coverage, Family, Names, Plan, Proved, Script, Style};
 
 const USAGE: &str = "\
-usage: sim [--calls N] [--seed S] [--settings f,c,k].. [--leaders LIST] [--longest N] [--style STYLE] [--core CORE]
-           [--fault NAME]..
+usage: sim [--calls N] [--seed S] [--settings f,c,k].. [--leaders LIST] [--longest N] [--style STYLE] [--names NAMES]
+           [--core CORE] [--fault NAME]..
        sim --scenario NAME
   --calls N         random calls in all, 1,000,000 if not given
   --seed S          what is drawn follows from it, 1 if not given
@@ -18,6 +18,8 @@ usage: sim [--calls N] [--seed S] [--settings f,c,k].. [--leaders LIST] [--longe
                     not given
   --longest N       the most calls of one run, 400 for each replica if not given
   --style STYLE     how runs are drawn: network, rounds, both (by turns, if not given), or old-states
+  --names NAMES     how blocks get their names: invented, contents (each comes with its own), or both (each run draws
+                    one, if not given)
   --core CORE       the replicas: oracle (if not given) or library, the proved one
   --fault NAME      an error built into the honest replicas, of the oracle only; may be given several times
   --scenario NAME   the scripted run for a fault in the cluster of six, or `resume`, call by call in words: with the error
@@ -35,6 +37,7 @@ struct Options {
     leaders: Vec<u8>,
     faults: Faults,
     style: Style,
+    names: Names,
     scenario: Option<String>,
     /// Over the proved library in place of the oracle; it has no faults.
     library: bool,
@@ -88,6 +91,15 @@ fn style(text: &str) -> Option<Style> {
     }
 }
 
+fn names(text: &str) -> Option<Names> {
+    match text {
+        "both" => Some(Names::Both),
+        "invented" => Some(Names::Invented),
+        "contents" => Some(Names::ByContents),
+        _ => None,
+    }
+}
+
 fn options(mut arguments: impl Iterator<Item = String>) -> Option<Options> {
     let mut options = Options {
         calls: 1_000_000,
@@ -97,6 +109,7 @@ fn options(mut arguments: impl Iterator<Item = String>) -> Option<Options> {
         leaders: Vec::new(),
         faults: Faults::NONE,
         style: Style::Both,
+        names: Names::Both,
         scenario: None,
         library: false,
     };
@@ -111,6 +124,7 @@ fn options(mut arguments: impl Iterator<Item = String>) -> Option<Options> {
                 options.leaders = value.split(',').map(|number| number.parse().ok()).collect::<Option<_>>()?
             }
             "--style" => options.style = style(&value)?,
+            "--names" => options.names = names(&value)?,
             "--fault" if options.faults.set(&value) => {}
             "--scenario" => options.scenario = Some(value),
             "--core" if value == "library" || value == "oracle" => options.library = value == "library",
@@ -157,6 +171,7 @@ fn explore<C: Core>(options: &Options, opening: C::Options) -> bool {
             calls: options.calls / groups.len() as u64,
             longest: options.longest,
             style: options.style,
+            names: options.names,
         };
         let start = Instant::now();
         print!("{}: ", group.words);

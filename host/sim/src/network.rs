@@ -13,6 +13,7 @@ use crate::cluster::{Cluster, Outcome, RefusedOpening};
 use crate::core::Core;
 use crate::coverage::Row;
 use crate::leaders;
+use crate::naming::{self, Naming, Own};
 use crate::random::Random;
 
 /// A record on its way. A forged one has no honest sender.
@@ -65,6 +66,8 @@ impl Weather {
 const HISTORY: usize = 512;
 /// Longest queue of a replica; what comes above is lost.
 const QUEUE: usize = 600;
+/// The most blocks that a store is filled with: it has room for 128, and some are refused for their contents.
+const FLOOD: usize = 200;
 
 pub struct Run<C: Core> {
     cluster: Cluster<C>,
@@ -81,7 +84,7 @@ pub struct Run<C: Core> {
 
 impl<C: Core> Run<C> {
     /// A run with some number of Byzantine replicas, at most f, and this leader list or one that is drawn.
-    pub fn new(options: C::Options, protocol: Protocol, leaders: Option<Leaders>, seed: u64) -> Run<C> {
+    pub fn new(options: C::Options, protocol: Protocol, leaders: Option<Leaders>, naming: Naming, seed: u64) -> Run<C> {
         let mut random = Random::new(seed);
         let settings = protocol.settings;
         let count = if random.chance(800) { settings.f() } else { random.below(settings.f() as usize + 1) as u32 };
@@ -89,8 +92,8 @@ impl<C: Core> Run<C> {
         let leaders = leaders.unwrap_or_else(|| leaders::draw(settings, liars, &mut random));
         let n = settings.n() as usize;
         Run {
-            cluster: Cluster::open(options, protocol, leaders, liars),
-            adversary: Adversary::new(protocol, leaders, liars),
+            cluster: Cluster::open(options, protocol, leaders, liars).named(&naming),
+            adversary: Adversary::new(protocol, leaders, liars, naming),
             weather: Weather::new(&mut random),
             random,
             queues: (0..n).map(|_| VecDeque::new()).collect(),
@@ -169,7 +172,7 @@ impl<C: Core> Run<C> {
 
     /// Hands a record in and sends on what comes of it.
     fn hand_in(&mut self, to: usize, record: &[u8]) -> Outcome {
-        let outcome = self.cluster.record(to, record);
+        let outcome = naming::hand_in(&mut self.cluster, &mut self.adversary, &mut self.random, to, record);
         self.after(to, outcome);
         outcome
     }
@@ -319,10 +322,11 @@ impl<C: Core> Run<C> {
         let Some(replica) = self.any() else { return };
         let parent = self.cluster.rows().row(replica).last().copied().unwrap_or(GENESIS);
         let height = Height(self.cluster.replica(replica).height() + 1);
-        let mut outcome = Outcome::Accepted;
-        while outcome == Outcome::Accepted {
-            let name = self.random.name();
-            outcome = self.hand_block(replica, &Block { name, parent, height });
+        for _ in 0..FLOOD {
+            let name = self.adversary.naming().name(parent, height, &mut self.random);
+            if self.hand_block(replica, &Block { name, parent, height }) == Outcome::Refused(14) {
+                return;
+            }
         }
     }
 
@@ -358,8 +362,8 @@ impl<C: Core> Run<C> {
 
     fn propose(&mut self, replica: usize) {
         self.proposed[replica] = self.cluster.view(replica);
-        let name = self.random.name();
-        if self.cluster.propose(replica, name) == Outcome::Accepted {
+        let own = Own::draw(&self.cluster, &mut self.random);
+        if own.propose(&mut self.cluster, replica, &mut self.random) == Outcome::Accepted {
             self.send_all(replica);
         }
     }
@@ -448,7 +452,7 @@ impl<C: Core> Run<C> {
             1 => known.unwrap_or(GENESIS),
             _ => self.random.name(),
         };
-        let outcome = self.cluster.propose(replica, name);
+        let outcome = naming::propose_oddly(&mut self.cluster, replica, name, &mut self.random);
         self.after(replica, outcome);
     }
 

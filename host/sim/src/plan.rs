@@ -6,6 +6,7 @@ use crate::chain::Violation;
 use crate::cluster::Cluster;
 use crate::core::Core;
 use crate::coverage::{Coverage, Row};
+use crate::naming::Naming;
 use crate::network::Run;
 use crate::random::Random;
 use crate::rounds::Rounds;
@@ -22,6 +23,16 @@ pub enum Style {
     OldStates,
 }
 
+/// How the blocks of the runs get their names.
+#[derive(Clone, Copy, Debug, PartialEq, Eq)]
+pub enum Names {
+    /// Each run draws one of the two.
+    Both,
+    Invented,
+    /// Every block comes with its contents.
+    ByContents,
+}
+
 /// Runs until so many calls are made.
 pub struct Plan<C: Core> {
     pub options: C::Options,
@@ -36,6 +47,7 @@ pub struct Plan<C: Core> {
     /// The most calls of one run; if there is none, 400 for each replica: a view takes more calls in a larger cluster.
     pub longest: Option<u64>,
     pub style: Style,
+    pub names: Names,
 }
 
 /// A run that broke the claim: its settings, seed and style, how many calls all runs took so far, and how it broke.
@@ -90,15 +102,27 @@ impl<C: Core> Plan<C> {
     ) -> (u64, Option<Violation>) {
         coverage.add(Row::Runs, 1);
         let protocol = Protocol::new(settings, self.faults);
+        let naming = self.naming(seed);
         if style != Style::Network {
             let old_states = style == Style::OldStates;
-            let mut run: Rounds<C> = Rounds::new(self.options, protocol, self.leaders, seed, old_states);
+            let mut run: Rounds<C> = Rounds::new(self.options, protocol, self.leaders, naming, seed, old_states);
             run.play(length);
             conclude(run.cluster(), coverage)
         } else {
-            let mut run: Run<C> = Run::new(self.options, protocol, self.leaders, seed);
+            let mut run: Run<C> = Run::new(self.options, protocol, self.leaders, naming, seed);
             run.play(length);
             conclude(run.cluster(), coverage)
+        }
+    }
+
+    /// Drawn from numbers of its own, as the settings are: a run with invented names is what it was before contents.
+    fn naming(&self, seed: u64) -> Naming {
+        let is_drawn = Random::new(seed.rotate_left(32)).chance(500);
+        match self.names {
+            Names::Invented => Naming::Invented,
+            Names::ByContents => Naming::by_contents(),
+            Names::Both if is_drawn => Naming::by_contents(),
+            Names::Both => Naming::Invented,
         }
     }
 }

@@ -14,6 +14,7 @@ use crate::core::Core;
 use crate::coverage::Row;
 use crate::leaders;
 use crate::ledger::Backing;
+use crate::naming::{self, Naming, Own};
 use crate::random::Random;
 
 pub struct Rounds<C: Core> {
@@ -31,6 +32,7 @@ impl<C: Core> Rounds<C> {
         options: C::Options,
         protocol: Protocol,
         leaders: Option<Leaders>,
+        naming: Naming,
         seed: u64,
         old_states: bool,
     ) -> Rounds<C> {
@@ -42,8 +44,8 @@ impl<C: Core> Rounds<C> {
         }
         let leaders = leaders.unwrap_or_else(|| leaders::draw(settings, liars, &mut random));
         Rounds {
-            cluster: Cluster::open(options, protocol, leaders, liars),
-            adversary: Adversary::new(protocol, leaders, liars),
+            cluster: Cluster::open(options, protocol, leaders, liars).named(&naming),
+            adversary: Adversary::new(protocol, leaders, liars, naming),
             random,
             old_states,
             saved: Vec::new(),
@@ -143,12 +145,16 @@ impl<C: Core> Rounds<C> {
         if made_by_one && usize::from(wire::sender_of(record)) == to {
             return;
         }
-        if self.cluster.record(to, record) == Outcome::Refused(12) && self.random.chance(900) {
+        if self.record(to, record) == Outcome::Refused(12) && self.random.chance(900) {
             if let Ok(Record::Proposal(proposal)) = wire::read(record, self.cluster.n() as u32) {
                 self.fetch(to, &proposal.block.parent);
-                self.cluster.record(to, record);
+                self.record(to, record);
             }
         }
+    }
+
+    fn record(&mut self, to: usize, record: &[u8]) -> Outcome {
+        naming::hand_in(&mut self.cluster, &mut self.adversary, &mut self.random, to, record)
     }
 
     fn fetch(&mut self, replica: usize, name: &[u8; 32]) {
@@ -159,7 +165,7 @@ impl<C: Core> Rounds<C> {
         for block in ledger.path(&known, height).into_iter().chain(planted) {
             let mut record = Vec::new();
             wire::write_block(&mut record, 0, &block);
-            self.cluster.record(replica, &record);
+            self.record(replica, &record);
         }
     }
 
@@ -189,10 +195,10 @@ impl<C: Core> Rounds<C> {
             return self.equivocate(view);
         }
         if self.cluster.view(leader) == view && self.cluster.replica(leader).timed() < view {
-            let name = self.random.name();
-            if self.cluster.propose(leader, name) == Outcome::Refused(12) {
+            let own = Own::draw(&self.cluster, &mut self.random);
+            if own.propose(&mut self.cluster, leader, &mut self.random) == Outcome::Refused(12) {
                 self.fetch_safe_block(leader, view);
-                self.cluster.propose(leader, name);
+                own.propose(&mut self.cluster, leader, &mut self.random);
             }
         }
         for record in self.cluster.ledger().made(view).proposals.clone() {

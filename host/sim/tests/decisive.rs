@@ -6,7 +6,7 @@ use std::cell::Cell;
 use oracle::wire::{self, kind, Timeouts};
 use oracle::{Faults, Name, Protocol, Replica, Settings};
 use sim::timeouts::{certificate_in, without};
-use sim::{Core, Coverage, Family, Plan, Proved, Style};
+use sim::{Core, Coverage, Family, Names, Plan, Proved, Style};
 
 /// How often each sort of answer was given.
 #[derive(Default)]
@@ -137,6 +137,24 @@ impl<'a> Core for Asked<'a> {
         answer
     }
 
+    fn record_with(&mut self, bytes: &[u8], contents: &[u8], output: &mut Vec<u8>) -> u16 {
+        let answer = Core::record_with(&mut self.replica, bytes, contents, output);
+        self.ask(answer, Some(bytes), output);
+        answer
+    }
+
+    fn propose_with(&mut self, name: Name, contents: &[u8], output: &mut Vec<u8>) -> u16 {
+        let answer = Core::propose_with(&mut self.replica, name, contents, output);
+        self.ask(answer, None, output);
+        answer
+    }
+
+    fn propose_contents(&mut self, contents: &[u8], output: &mut Vec<u8>) -> u16 {
+        let answer = Core::propose_contents(&mut self.replica, contents, output);
+        self.ask(answer, None, output);
+        answer
+    }
+
     fn view(&self) -> u64 {
         self.replica.view()
     }
@@ -161,6 +179,7 @@ fn play(family: Family, answers: &Answers) {
         calls: 250_000,
         longest: None,
         style: Style::Rounds,
+        names: Names::Both,
     };
     plan.play(&mut Coverage::default()).expect("one chain");
 }

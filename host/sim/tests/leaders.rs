@@ -2,7 +2,7 @@
 
 use oracle::{Faults, Leaders, Protocol, Replica};
 use sim::settings::six;
-use sim::{Core, Coverage, Plan, Proved, Row, Script, Style};
+use sim::{Core, Coverage, Names, Plan, Proved, Row, Script, Style};
 
 fn leaders(list: &[u8]) -> Leaders {
     Leaders::new(list, six()).expect("a list that is taken")
@@ -20,6 +20,7 @@ fn play<C: Core>(options: C::Options, list: &[u8]) -> Coverage {
         calls: 60_000,
         longest: None,
         style: Style::Both,
+        names: Names::Both,
     };
     plan.play(&mut coverage).expect("one chain");
     assert!(coverage.count(Row::RuleD) > 300, "{list:?}: {} walks", coverage.count(Row::RuleD));

@@ -1,7 +1,7 @@
 //! The simulated cluster over the proved library: one chain, and call for call the same runs as over the oracle.
 
 use oracle::{Faults, Protocol, Replica};
-use sim::{scenarios, settings, Core, Coverage, Family, Plan, Proved, Script, Style};
+use sim::{scenarios, settings, Core, Coverage, Family, Names, Plan, Proved, Script, Style};
 
 /// Plays runs with the settings of a family over this replica, all on one chain.
 fn play<C: Core>(options: C::Options, family: Family, coverage: &mut Coverage) -> u64 {
@@ -14,6 +14,7 @@ fn play<C: Core>(options: C::Options, family: Family, coverage: &mut Coverage) -
         calls: 250_000,
         longest: None,
         style: Style::Both,
+        names: Names::Both,
     };
     plan.play(coverage).expect("one chain")
 }

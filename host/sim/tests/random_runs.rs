@@ -1,10 +1,11 @@
 //! Random runs: one chain in every one of them, and everything in the coverage table reached.
 
 use oracle::{Faults, Replica, Settings};
-use sim::{settings, Coverage, Failure, Family, Plan, Row, Style};
+use sim::{settings, Coverage, Failure, Family, Names, Plan, Row, Style};
 
 fn plan(settings: Vec<Settings>, faults: Faults, seed: u64, calls: u64) -> Plan<Replica> {
-    Plan { options: faults, faults, settings, leaders: None, seed, calls, longest: None, style: Style::Both }
+    let (style, names) = (Style::Both, Names::Both);
+    Plan { options: faults, faults, settings, leaders: None, seed, calls, longest: None, style, names }
 }
 
 /// What runs without an error reach, all on one chain.
