@@ -4,7 +4,7 @@ use std::process::ExitCode;
 use std::{fmt, fs, io, path::Path};
 
 use bench::table::Table;
-use bench::{decisive, held, kinds, markdown, names, plot, releases, size, timeouts};
+use bench::{contents, decisive, held, kinds, markdown, names, plot, releases, size, timeouts};
 use oracle::help;
 
 const USAGE: &str = "\
@@ -23,10 +23,11 @@ sections:
   timeouts  one view change by timeouts; n 6, 13, 32
   decisive  whose timeout decided a timeout certificate; n 6 to 32
   releases  chains of 1 to 128 blocks released at once, and the longest calls known
-  names     the name of a block with contents of 0 to 4,096 bytes, beside the same in C";
+  names     the name of a block with contents of 0 to 4,096 bytes, beside the same in C
+  contents  blocks and proposals that come with contents of 0 to 4,096 bytes, beside the plain calls";
 
 /// In the document's order.
-const SECTIONS: [&str; 7] = ["kinds", "size", "held", "timeouts", "decisive", "releases", "names"];
+const SECTIONS: [&str; 8] = ["kinds", "size", "held", "timeouts", "decisive", "releases", "names", "contents"];
 
 struct Options {
     calls: usize,
@@ -107,7 +108,8 @@ fn measure(section: &str, options: &Options) -> Table {
         "timeouts" => timeouts::measure(options.rounds),
         "decisive" => decisive::measure(options.rounds),
         "releases" => releases::measure(options.rounds),
-        _ => names::measure(options.rounds),
+        "names" => names::measure(options.rounds),
+        _ => contents::measure(options.rounds),
     };
     print(&table, &[&table], options);
     table

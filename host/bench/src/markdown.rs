@@ -12,6 +12,7 @@ pub fn section(table: &Table) -> String {
             ("Every view times out", list(table, &["n", "timeouts taken", "refused as late", "one view change"]))
         }
         "decisive" => ("Whose timeout decided", decisive(table)),
+        "contents" => ("Blocks with their contents", contents(table)),
         "releases" => ("Releases", list(table, &["n", "released", "the call"])),
         _ => ("The name of a block", names(table)),
     };
@@ -39,10 +40,19 @@ fn decisive(table: &Table) -> String {
     grid("", table.rows.iter().map(cell).collect())
 }
 
+fn contents(table: &Table) -> String {
+    let cell = |row: &Row| (words(&row.labels[0]), format!("{} bytes", length(&row.labels[1])), row.times);
+    grid("", table.rows.iter().map(cell).collect())
+}
+
+/// Bytes of contents, with thousands set apart.
+fn length(label: &str) -> String {
+    number(label.parse().expect("a number"), 0)
+}
+
 /// Nanoseconds, a line for each length.
 fn names(table: &Table) -> String {
-    let length = |row: &Row| number(row.labels[0].parse().expect("a number"), 0);
-    let rows = table.rows.iter().map(|row| line([length(row), figures(row.times, 0, 2)].into_iter()));
+    let rows = table.rows.iter().map(|row| line([length(&row.labels[0]), figures(row.times, 0, 2)].into_iter()));
     head(&["bytes of contents", &format!("beside {}", table.against)]) + &rows.collect::<String>()
 }
 

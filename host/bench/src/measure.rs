@@ -69,7 +69,7 @@ fn timed_marks(case: &[Script]) -> Vec<Mark> {
 /// Of each case the nanoseconds of its calls, library then oracle: each call's median over the rounds, less what measuring
 /// takes by itself. A round plays all cases, so that a slow while of the machine slows all; the first round warms up and
 /// isn't counted.
-fn medians_of<C>(cases: &[C], rounds: usize, mut time: impl FnMut(&C) -> [Vec<u32>; 2]) -> Vec<[Vec<f64>; 2]> {
+pub fn medians_of<C>(cases: &[C], rounds: usize, mut time: impl FnMut(&C) -> [Vec<u32>; 2]) -> Vec<[Vec<f64>; 2]> {
     let mut times: Vec<[Vec<Vec<u32>>; 2]> = cases.iter().map(|_| Default::default()).collect();
     let mut nothing = Vec::new();
     for round in 0..=rounds {

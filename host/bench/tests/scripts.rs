@@ -1,9 +1,10 @@
 //! What is timed is what it seems: both sides answer every scripted call alike, and pictures and tables are whole.
 
+use bench::contents::Way;
 use bench::measure::{Mark, Script, Times};
 use bench::sides::{Library, Oracle, Side};
 use bench::table::{Row, Table};
-use bench::{decisive, held, kinds, markdown, names, plot, releases, size, timeouts};
+use bench::{contents, decisive, held, kinds, markdown, names, plot, releases, size, timeouts};
 use streams::Kind;
 
 fn assert_alike(script: &Script) {
@@ -32,12 +33,23 @@ fn library_and_c_name_alike() {
     (0..=192).for_each(|length| drop(names::Question::any(length, 1)));
 }
 
+/// With their contents and without: the calls fit their states, or it would panic.
+#[test]
+fn blocks_are_taken_with_their_contents() {
+    for kind in contents::Kind::ALL {
+        for (length, way) in contents::LENGTHS.into_iter().zip([Way::With, Way::Plain, Way::With]) {
+            contents::Chain::new(kind, length, 1).play(|library, call| call.make(library, way));
+        }
+    }
+}
+
 /// One round of each section: the calls fit their states, or it would panic.
 #[test]
 fn sections_are_whole() {
     let [held, timeouts, size] = [held::measure(1), timeouts::measure(1), size::measure(1)];
-    let tables = [held, timeouts, size, releases::measure(1), decisive::measure(1), names::measure(1)];
-    for (table, rows) in tables.iter().zip([32, 3, 24, 14, 24, 4]) {
+    let [releases, decisive, names] = [releases::measure(1), decisive::measure(1), names::measure(1)];
+    let tables = [held, timeouts, size, releases, decisive, names, contents::measure(1)];
+    for (table, rows) in tables.iter().zip([32, 3, 24, 14, 24, 4, 9]) {
         assert_eq!(table.rows.len(), rows, "{}", table.name);
         assert!(table.rows.iter().all(|row| row.times.iter().all(|time| *time > 0.0)), "{table}");
         assert_eq!(table.csv().lines().count(), rows + 1);

@@ -10,4 +10,5 @@ fn the_usage_is_printed() {
     usage::on_request(env!("CARGO_BIN_EXE_profile"));
     usage::on_error(env!("CARGO_BIN_EXE_profile"), &["work", "7", "Vote", "accepted"]);
     usage::on_error(env!("CARGO_BIN_EXE_profile"), &["names", "4097"]);
+    usage::on_error(env!("CARGO_BIN_EXE_profile"), &["contents", "256", "Vote", "With"]);
 }

@@ -66,8 +66,6 @@ impl Weather {
 const HISTORY: usize = 512;
 /// Longest queue of a replica; what comes above is lost.
 const QUEUE: usize = 600;
-/// The most blocks that a store is filled with: it has room for 128, and some are refused for their contents.
-const FLOOD: usize = 200;
 
 pub struct Run<C: Core> {
     cluster: Cluster<C>,
@@ -322,11 +320,11 @@ impl<C: Core> Run<C> {
         let Some(replica) = self.any() else { return };
         let parent = self.cluster.rows().row(replica).last().copied().unwrap_or(GENESIS);
         let height = Height(self.cluster.replica(replica).height() + 1);
-        for _ in 0..FLOOD {
+        let mut outcome = Outcome::Accepted;
+        // Some are refused for their contents.
+        while matches!(outcome, Outcome::Accepted | Outcome::Refused(16 | 17)) {
             let name = self.adversary.naming().name(parent, height, &mut self.random);
-            if self.hand_block(replica, &Block { name, parent, height }) == Outcome::Refused(14) {
-                return;
-            }
+            outcome = self.hand_block(replica, &Block { name, parent, height });
         }
     }
 

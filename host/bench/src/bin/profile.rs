@@ -1,12 +1,14 @@
 //! Plays calls on the library for a profiler, random streams or a cluster at work. Calls of the kind and answer asked
 //! for go through the function `profiled`, all others through `others`. Or asks whose timeout decided a timeout
-//! certificate, all in `profiled_question`, or for the names of blocks, in `profiled_name`:
+//! certificate, all in `profiled_question`, or for the names of blocks, in `profiled_name`, or brings blocks with their
+//! contents or without, in `profiled_contents`:
 //!
 //!     valgrind --tool=callgrind --toggle-collect='*profiled*' target/release/profile work 13 Vote accepted
 
 use std::hint::black_box;
 use std::process::ExitCode;
 
+use bench::contents::{self, Chain, Way};
 use bench::decisive::{Case, Question};
 use bench::names;
 use bench::sides::{Library, Oracle, Side};
@@ -18,16 +20,19 @@ const USAGE: &str = "\
 usage: profile streams|work N KIND accepted|refused [RUNS]
        profile decisive N CASE [RUNS]
        profile names LENGTH [RUNS]
+       profile contents LENGTH BRINGS With|Plain [RUNS]
 plays calls on the library: in the function `profiled` those of that kind and answer, in `others` all others
   streams, work      random streams, or a cluster at work
   decisive           the call on a timeout certificate, in `profiled_question`
   names              the name of a block, in `profiled_name`
+  contents           calls that bring a block, with its contents or without, in `profiled_contents`
   N                  the cluster's size: 6, 9, 13, 18, 24 or 32
   KIND               Vote, Commit, BlockCertificate, Timeout, TimeoutCertificate, Proposal, Block, Timer, Propose, or
                      Foreign: a record of no kind that a replica takes
   accepted, refused  the answer
   CASE               Enough, Alike, Different or ByTurns: the timeouts, as `bench --section decisive` has them
   LENGTH             bytes of the block's contents, 4,096 at most
+  BRINGS             Block, Proposal or Propose
   RUNS               how many runs, 2 if not given
   --help             prints this";
 
@@ -73,6 +78,7 @@ fn main() -> ExitCode {
     let found = match arguments.first().map(String::as_str) {
         Some("decisive") => run_decisive(&arguments[1..]),
         Some("names") => run_names(&arguments[1..]),
+        Some("contents") => run_contents(&arguments[1..]),
         _ => Asked::read(&arguments).map(|asked| asked.run()),
     };
     let Some(found) = found else {
@@ -101,6 +107,25 @@ fn run_names(arguments: &[String]) -> Option<usize> {
     let length = length.parse().ok().filter(|length| *length <= names::LONGEST)?;
     let questions = (0..read_runs(rest)?).map(|seed| names::Question::any(length, seed));
     Some(questions.filter(|question| black_box(profiled_name(question))).count())
+}
+
+/// The same for calls that bring a block.
+fn run_contents(arguments: &[String]) -> Option<usize> {
+    let [length, kind, way, rest @ ..] = arguments else { return None };
+    let length = length.parse().ok().filter(|length| *length <= names::LONGEST)?;
+    let kind = contents::Kind::ALL.into_iter().find(|known| format!("{known:?}") == *kind)?;
+    let way = Way::ALL.into_iter().find(|known| format!("{known:?}") == *way)?;
+    let mut found = 0;
+    for seed in 0..read_runs(rest)? {
+        Chain::new(kind, length, seed).play(|library, call| {
+            found += usize::from(call.is_timed);
+            match call.is_timed {
+                true => black_box(profiled_contents(library, call, way)),
+                false => call.make(library, way),
+            }
+        });
+    }
+    Some(found)
 }
 
 fn stream((f, c, k): Settings, seed: u64) -> Calls {
@@ -142,6 +167,11 @@ fn profiled_question(question: &Question) -> bool {
 #[inline(never)]
 fn profiled_name(question: &names::Question) -> bool {
     question.ask_library()
+}
+
+#[inline(never)]
+fn profiled_contents(library: &mut Library, call: &contents::Call, way: Way) -> bool {
+    call.make(library, black_box(way))
 }
 
 #[inline(never)]
