@@ -166,7 +166,7 @@ impl Lent<'_> {
         call!(hydrangea_record, self, record.as_ptr(), record.len())
     }
 
-    /// A record of any bytes that comes with contents of any bytes.
+    /// The same with contents of any bytes.
     pub fn record_with(&mut self, record: &[u8], contents: &[u8]) -> Reply {
         call!(hydrangea_record_with, self, record.as_ptr(), record.len(), contents.as_ptr(), contents.len())
     }
@@ -181,7 +181,7 @@ impl Lent<'_> {
         call!(hydrangea_propose, self, name)
     }
 
-    /// A block of this name, with contents of any bytes, is proposed.
+    /// The same with contents of any bytes.
     pub fn propose_with(&mut self, name: Name, contents: &[u8]) -> Reply {
         call!(hydrangea_propose_with, self, name, contents.as_ptr(), contents.len())
     }
