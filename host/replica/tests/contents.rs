@@ -222,3 +222,40 @@ fn contents_are_proposed_after_timeouts() {
     };
     assert_eq!((proposal.block.name, proposal.block.parent), (name, safe));
 }
+
+/// One timeout of four gives a block as high vote, so genesis is safe. On that block the same contents make a block that is
+/// held: that isn't the end of the search.
+#[test]
+fn a_held_name_on_another_block_is_passed_over() {
+    let (_, proposal) = proposal_by(&mut open(0), TITLE);
+    let mut leader = open(1);
+    assert!(leader.record_with(&proposal, TITLE).is_ok());
+    let above = child(&leader.held()[0], OTHER);
+    assert!(leader.record_with(&block_record(&above), OTHER).is_ok());
+    assert!(leader.timer(replica::View(1)).is_ok());
+    for own in 2..5 {
+        let timeout = first(open(own).timer(replica::View(1)).expect("accepted"));
+        assert!(leader.record(&timeout).is_ok());
+    }
+    assert_eq!(leader.entry().map(|entry| entry.names()), Some(vec![Name::GENESIS, above.parent]));
+    assert_eq!(leader.propose_with(above.name, OTHER).err(), Some(Refusal::Conflicting));
+    let (name, _) = proposal_by(&mut leader, OTHER);
+    assert_eq!(name, child(&replica::Block::default(), OTHER).name);
+}
+
+#[test]
+fn seventeen_comes_before_fourteen() {
+    let mut leader = open(0);
+    for number in 0..128u8 {
+        let contents = [number];
+        let block = child(&leader.tip(), Contents(&contents));
+        assert!(leader.record_with(&block_record(&block), Contents(&contents)).is_ok());
+    }
+    let name = child(&leader.tip(), TITLE).name;
+    assert_eq!(leader.propose_with(name, OTHER).err(), Some(Refusal::NameWrong));
+    assert_eq!(leader.propose_with(name, TITLE).err(), Some(Refusal::StoreFull));
+    assert_eq!(leader.propose_contents(TITLE).err(), Some(Refusal::StoreFull));
+    let block = block_record(&child(&leader.tip(), TITLE));
+    assert_refused(&mut leader, &block, OTHER, 17);
+    assert_refused(&mut leader, &block, TITLE, 14);
+}
