@@ -321,8 +321,8 @@ impl<C: Core> Run<C> {
         let parent = self.cluster.rows().row(replica).last().copied().unwrap_or(GENESIS);
         let height = Height(self.cluster.replica(replica).height() + 1);
         let mut outcome = Outcome::Accepted;
-        // Some are refused for their contents.
-        while matches!(outcome, Outcome::Accepted | Outcome::Refused(16 | 17)) {
+        // Some are refused for their contents, or come twice: no bytes make one name.
+        while matches!(outcome, Outcome::Accepted | Outcome::Refused(10 | 16 | 17)) {
             let name = self.adversary.naming().name(parent, height, &mut self.random);
             outcome = self.hand_block(replica, &Block { name, parent, height });
         }
