@@ -16,7 +16,8 @@ use Rattle.protocol.specs.Work.{Work}
 use Rattle.protocol.specs.Refusals.{storeLength, regionRules, timerRules}
 use Rattle.protocol.specs.Events.{onRecord, onTimer, onPropose}
 use Rattle.protocol.specs.Rules.{again}
-use Rattle.protocol.specs.Calls.{Outcome, recordCall, timerCall, proposeCall, _then_}
+use Rattle.protocol.specs.Contents.{given}
+use Rattle.protocol.specs.Calls.{Outcome, recordCall, timerCall, proposeCall, recordCallWith, proposeCallWith, _then_}
 use Rattle.refusals.specs.Number.{answerOf, firstOf}
 use Rattle.refusals.specs.Early.{lent}
 use Rattle.judge.specs.declared.Want.{Want}
@@ -24,8 +25,8 @@ use Rattle.act.specs.declared.Draft.{Draft}
 use Rattle.act.specs.Draft.{workOf, left, leftBy}
 use Rattle.act.proofs.Steps.{ready-less, ready-facts}
 use Rattle.perform.specs.declared.Done.{Done}
-use Rattle.perform.specs.Perform.{Performs, timerNumber, TimerJudged, proposeNumber, ProposeFound, recordNumber, RecordFound}
-use Rattle.perform.proofs.Calls.{record-outcome, propose-outcome, timer-outcome}
+use Rattle.perform.specs.Perform.{Performs, timerNumber, TimerJudged, proposeNumber, ProposeFound, proposeNumberWith, recordNumber, RecordFound, recordNumberWith}
+use Rattle.perform.proofs.Calls.{record-outcome, propose-outcome, timer-outcome, record-with-outcome, propose-with-outcome}
 use Rattle.replica.specs.declared.Reply.{Reply}
 use Rattle.replica.specs.Reply.{replyOf, lentTo, replied, repliedBy, Concludes}
 
@@ -81,6 +82,17 @@ module _ (c : Counters) (m o : List ℕ) (s : List Block) (short : length s < 2 
       → Performs (proposeNumber (length o) x) (onPropose x) (ProposeFound (length o) x w found under) c m o e m′ o′
       → replied r (d .counters) m₂ s₂ o₂ ≡ repliedBy (proposeCall byList (lentTo c m s) o x)
   propose-is x w found under g p = answers _ (propose-outcome (lentTo c m s) o short e m′ o′ x w found under g p turned)
+
+  -- the same two with contents
+  pub record-with-is : (b k : List ℕ) (w : Want) (found under : Found) → RecordFound (length o) b w found under (lent c m s)
+      → Performs (recordNumberWith (length o) b k) (onRecord b (content b)) (RecordFound (length o) b w found under) c m o e m′ o′
+      → replied r (d .counters) m₂ s₂ o₂ ≡ repliedBy (recordCallWith byList (lentTo c m s) o b (given k))
+  record-with-is b k w found under g p = answers _ (record-with-outcome (lentTo c m s) o short e m′ o′ b k w found under g p turned)
+
+  pub propose-with-is : (x k : List ℕ) (w : Want) (found under : Found) → ProposeFound (length o) x w found under (lent c m s)
+      → Performs (proposeNumberWith (length o) x k) (onPropose x) (ProposeFound (length o) x w found under) c m o e m′ o′
+      → replied r (d .counters) m₂ s₂ o₂ ≡ repliedBy (proposeCallWith byList (lentTo c m s) o x (given k))
+  propose-with-is x k w found under g p = answers _ (propose-with-outcome (lentTo c m s) o short e m′ o′ x k w found under g p turned)
 
   pub timer-is : (v k : ℕ) → TimerJudged (length o) v k (lent c m s)
       → Performs (timerNumber (length o) v) (onTimer v) (TimerJudged (length o) v k) c m o e m′ o′
