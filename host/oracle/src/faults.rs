@@ -1,4 +1,6 @@
-//! Deliberate errors, all off by default: 01's missteps and quorums one too low, though never 0.
+//! Deliberate errors, all off by default: 01's missteps, quorums one too low, though never 0, and wrong readings of 02, 2.5.
+
+use crate::misreading::Misreading;
 
 /// Which errors a replica makes. 01: "Missteps by which two chains arise".
 #[derive(Clone, Copy, Debug, Default, PartialEq, Eq)]
@@ -20,6 +22,8 @@ pub struct Faults {
     pub timeout_quorum_lower: bool,
     pub slow_quorum_lower: bool,
     pub fast_quorum_lower: bool,
+    /// How contents are misread, if they are.
+    pub misreading: Option<Misreading>,
 }
 
 impl Faults {
@@ -35,9 +39,10 @@ impl Faults {
         timeout_quorum_lower: false,
         slow_quorum_lower: false,
         fast_quorum_lower: false,
+        misreading: None,
     };
 
-    /// The names under which `set` knows the flags.
+    /// The names under which `set` knows the flags. A misreading is none: where no contents come it changes nothing.
     pub const NAMES: [&'static str; 11] = [
         "p-from-c-k-2",
         "weak-over-block",

@@ -1,12 +1,17 @@
-//! Refusals 6 to 15 in 01's order; 3, 4 and 5 are `wire::shape`. Each function judges one kind of call and changes nothing.
+//! Refusals 6 to 15 in 01's order, and 16 and 17 at 02's places; 3, 4 and 5 are `wire::shape`. Each function judges one kind of
+//! call and changes nothing.
 
 use crate::certificate::{Certificate, Timeout};
 use crate::kept::{BallotRows, Window};
+use crate::name::{block_name, CONTENTS};
 use crate::replica::Replica;
 use crate::types::{Block, Height, Name, Refusal, View, Vote, GENESIS};
 use crate::wire::{self, Progress, Proposal, RawTimeout, TimeoutCertificate};
 
 pub(crate) type Judged = Result<(), Refusal>;
+
+/// 02, 2.5: a call "may come with its contents in a second region". Empty contents are contents.
+pub(crate) type Contents<'a> = Option<&'a [u8]>;
 
 /// A proposed block that may be taken: with the certificate that makes its parent safe, and whether it isn't held yet.
 pub(crate) struct Placed {
@@ -31,8 +36,21 @@ impl Replica {
         View(1) <= view && view <= View::MAX && self.memory.entry.is_sound(self.settings().n())
     }
 
-    pub(crate) fn judge_regions(&self) -> Judged {
-        refuse_if(!self.is_sound(), Refusal::Regions)
+    /// 2, and "right after 2" 16: "Contents over 4,096 bytes", beside whatever they come.
+    pub(crate) fn judge_regions(&self, contents: Contents<'_>) -> Judged {
+        refuse_if(!self.is_sound(), Refusal::Regions)?;
+        refuse_if(contents.is_some_and(|contents| contents.len() > CONTENTS), Refusal::ContentsTooLong)
+    }
+
+    /// 17: "a name that isn't the digest" of the block's own parent and height with the contents, if any came.
+    fn judge_name(block: &Block, contents: Contents<'_>) -> Judged {
+        match contents {
+            None => Ok(()),
+            Some(contents) => {
+                let digest = block_name(block.parent, block.height, contents)?;
+                refuse_if(block.name != digest, Refusal::NameWrong)
+            }
+        }
     }
 
     /// 6: "sender ≥ n"
@@ -97,11 +115,12 @@ impl Replica {
     }
 
     /// Kind 7.
-    pub(crate) fn judge_proposal(&self, proposal: &Proposal<'_>) -> Result<Placed, Refusal> {
+    pub(crate) fn judge_proposal(&self, proposal: &Proposal<'_>, contents: Contents<'_>) -> Result<Placed, Refusal> {
         self.judge_other(proposal.sender)?;
         self.judge_leader(proposal)?;
         self.judge_view(proposal.view)?;
         refuse_if(!self.progress_is_good(proposal), Refusal::Certificate)?;
+        Self::judge_name(&proposal.block, contents)?;
         self.judge_voted(proposal.view, &proposal.block.name)?;
         let held = self.held(&proposal.block.name);
         refuse_if(held.is_some_and(|held| held != proposal.block), Refusal::Conflicting)?;
@@ -142,8 +161,9 @@ impl Replica {
     }
 
     /// Kind 8.
-    pub(crate) fn judge_block(&self, sender: u16, block: &Block) -> Judged {
+    pub(crate) fn judge_block(&self, sender: u16, block: &Block, contents: Contents<'_>) -> Judged {
         self.judge_sender(sender)?;
+        Self::judge_name(block, contents)?;
         if let Some(held) = self.held(&block.name) {
             return Err(if held == *block { Refusal::Repeated } else { Refusal::Conflicting });
         }
@@ -159,16 +179,19 @@ impl Replica {
         refuse_if(self.counters.timed >= view, Refusal::Repeated)
     }
 
-    /// Propose: 15 first, "then 5 (zero name), 11 (name held), 12 (safe block not held), 13 (height over 2^62), 14".
-    pub(crate) fn judge_propose(&self, name: Name) -> Result<Placed, Refusal> {
+    /// Propose: 15 first, "then 5 (zero name), 11 (name held), 12 (safe block not held), 13 (height over 2^62), 14", and by 02
+    /// 17 before 14, "with the safe block and its height plus 1".
+    pub(crate) fn judge_propose(&self, name: Name, contents: Contents<'_>) -> Result<Placed, Refusal> {
         refuse_if(!self.is_turn(), Refusal::Turn)?;
         refuse_if(name == GENESIS, Refusal::Content)?;
         refuse_if(self.held(&name).is_some(), Refusal::Conflicting)?;
         let safe = self.safe_of(&wire::read_progress(self.memory.entry.record()));
         let parent = self.held(&safe.name).ok_or(Refusal::ParentMissing)?;
         let height = parent.height.child().ok_or(Refusal::ParentWrong)?;
+        let block = Block { name, parent: safe.name, height };
+        Self::judge_name(&block, contents)?;
         refuse_if(self.memory.store.is_full(), Refusal::StoreFull)?;
-        Ok(Placed { safe, block: Block { name, parent: safe.name, height }, is_new: true })
+        Ok(Placed { safe, block, is_new: true })
     }
 
     /// 15 turned round: "not leader, timed ≥ view, voted in it, or view 2^62".

@@ -3,6 +3,7 @@
 use std::collections::{BTreeMap, BTreeSet};
 
 use crate::certificate::Certificate;
+use crate::judge::{Contents, Judged};
 use crate::kept::BallotRows;
 use crate::replica::Replica;
 use crate::types::{Block, Name, Reply, View};
@@ -19,23 +20,26 @@ enum Rule {
 pub type Ran = [u64; 4];
 
 /// The calls, with 01's loop after the event.
-pub fn record(replica: &mut Replica, bytes: &[u8], out: &mut Vec<u8>, ran: &mut Ran) -> Reply {
-    let start = out.len();
-    replica.record_event(bytes, out)?;
-    settle(replica, out, ran);
-    Ok(out.len() - start)
+pub fn record(replica: &mut Replica, bytes: &[u8], contents: Contents<'_>, out: &mut Vec<u8>, ran: &mut Ran) -> Reply {
+    call(replica, out, ran, |replica, out| replica.record_event(bytes, contents, out))
 }
 
 pub fn timer(replica: &mut Replica, view: View, out: &mut Vec<u8>, ran: &mut Ran) -> Reply {
-    let start = out.len();
-    replica.timer_event(view, out)?;
-    settle(replica, out, ran);
-    Ok(out.len() - start)
+    call(replica, out, ran, |replica, out| replica.timer_event(view, out))
 }
 
-pub fn propose(replica: &mut Replica, name: Name, out: &mut Vec<u8>, ran: &mut Ran) -> Reply {
+pub fn propose(replica: &mut Replica, name: Name, contents: Contents<'_>, out: &mut Vec<u8>, ran: &mut Ran) -> Reply {
+    call(replica, out, ran, |replica, out| replica.propose_event(name, contents, out))
+}
+
+fn call(
+    replica: &mut Replica,
+    out: &mut Vec<u8>,
+    ran: &mut Ran,
+    event: impl FnOnce(&mut Replica, &mut Vec<u8>) -> Judged,
+) -> Reply {
     let start = out.len();
-    replica.propose_event(name, out)?;
+    event(replica, out)?;
     settle(replica, out, ran);
     Ok(out.len() - start)
 }

@@ -2,9 +2,10 @@
 
 use crate::certificate::{Certificate, CertificateKind, Timeout};
 use crate::faults::Faults;
-use crate::judge::{Judged, Placed};
+use crate::judge::{Contents, Judged, Placed};
 use crate::kept::{BallotRows, EntryCertificate, TimeoutRows};
 use crate::leaders::Leaders;
+use crate::misreading::Beside;
 use crate::settings::{Protocol, Settings};
 use crate::store::Store;
 use crate::types::{Block, Name, Refusal, Reply, View, Vote, GENESIS};
@@ -115,31 +116,50 @@ impl Replica {
 
     /// The call "record" with any bytes. Output is appended to `out`. A refusal changes nothing.
     pub fn record(&mut self, bytes: &[u8], out: &mut Vec<u8>) -> Reply {
-        let start = out.len();
-        self.record_event(bytes, out)?;
-        self.settle(out);
-        Ok(out.len() - start)
+        self.call(out, |replica, out| replica.record_event(bytes, None, out))
+    }
+
+    /// The same with contents: those of the block, if it brings one.
+    pub fn record_with(&mut self, bytes: &[u8], contents: &[u8], out: &mut Vec<u8>) -> Reply {
+        let contents = self.read_contents(Beside::Record(bytes), contents)?;
+        self.call(out, |replica, out| replica.record_event(bytes, contents, out))
     }
 
     /// The call "timer": the host's clock for a view ran out.
     pub fn timer(&mut self, view: View, out: &mut Vec<u8>) -> Reply {
-        let start = out.len();
-        self.timer_event(view, out)?;
-        self.settle(out);
-        Ok(out.len() - start)
+        self.call(out, |replica, out| replica.timer_event(view, out))
     }
 
     /// The call "propose".
     pub fn propose(&mut self, name: Name, out: &mut Vec<u8>) -> Reply {
+        self.call(out, |replica, out| replica.propose_event(name, None, out))
+    }
+
+    /// The same with the proposed block's contents.
+    pub fn propose_with(&mut self, name: Name, contents: &[u8], out: &mut Vec<u8>) -> Reply {
+        let contents = self.read_contents(Beside::Propose(name), contents)?;
+        self.call(out, |replica, out| replica.propose_event(name, contents, out))
+    }
+
+    /// An event, and then the rules.
+    fn call(&mut self, out: &mut Vec<u8>, event: impl FnOnce(&mut Replica, &mut Vec<u8>) -> Judged) -> Reply {
         let start = out.len();
-        self.propose_event(name, out)?;
+        event(self, out)?;
         self.settle(out);
         Ok(out.len() - start)
     }
 
+    /// The contents that are judged: those that came, unless they are misread.
+    fn read_contents<'a>(&self, beside: Beside<'_>, contents: &'a [u8]) -> Result<Contents<'a>, Refusal> {
+        match self.protocol.faults.misreading {
+            None => Ok(Some(contents)),
+            Some(misreading) => misreading.read(self, beside, contents),
+        }
+    }
+
     /// What a record does before the rules run, or its refusal.
-    pub(crate) fn record_event(&mut self, bytes: &[u8], out: &mut Vec<u8>) -> Judged {
-        self.judge_regions()?;
+    pub(crate) fn record_event(&mut self, bytes: &[u8], contents: Contents<'_>, out: &mut Vec<u8>) -> Judged {
+        self.judge_regions(contents)?;
         match wire::read(bytes, self.settings().n())? {
             Record::Vote { sender, vote } => {
                 self.judge_ballot(&self.memory.votes, sender, vote)?;
@@ -162,14 +182,14 @@ impl Replica {
                 self.take_timeout_certificate(&certificate, out);
             }
             Record::Proposal(proposal) => {
-                let placed = self.judge_proposal(&proposal)?;
+                let placed = self.judge_proposal(&proposal, contents)?;
                 if proposal.view > self.counters.view {
                     self.take_progress(&proposal.progress, out);
                 }
                 self.take_proposal(proposal.view, placed, out);
             }
             Record::Block { sender, block } => {
-                self.judge_block(sender, &block)?;
+                self.judge_block(sender, &block, contents)?;
                 self.memory.store.push(block);
             }
         }
@@ -177,16 +197,16 @@ impl Replica {
     }
 
     pub(crate) fn timer_event(&mut self, view: View, out: &mut Vec<u8>) -> Judged {
-        self.judge_regions()?;
+        self.judge_regions(None)?;
         self.judge_timer(view)?;
         self.send_timeout(view, out);
         Ok(())
     }
 
     /// 01: "build on the safe block of the entry certificate, send, and take the proposal as one's own."
-    pub(crate) fn propose_event(&mut self, name: Name, out: &mut Vec<u8>) -> Judged {
-        self.judge_regions()?;
-        let placed = self.judge_propose(name)?;
+    pub(crate) fn propose_event(&mut self, name: Name, contents: Contents<'_>, out: &mut Vec<u8>) -> Judged {
+        self.judge_regions(contents)?;
+        let placed = self.judge_propose(name, contents)?;
         let view = self.counters.view;
         wire::write_proposal(out, self.own, view, &placed.block, self.memory.entry.record());
         self.take_proposal(view, placed, out);

@@ -50,8 +50,8 @@ impl Block {
     pub const GENESIS: Block = Block { name: GENESIS, parent: GENESIS, height: Height(0) };
 }
 
-/// Refusal numbers: 1 to 15 are 01's, by place, in the order in which they are judged; 16 is 02's, of the call that names a
-/// block, and no call on a replica gives it.
+/// Refusal numbers: 1 to 15 are 01's, by place, in the order in which they are judged; 16 and 17 are 02's, whose places aren't
+/// those of their numbers.
 #[derive(Clone, Copy, Debug, PartialEq, Eq, PartialOrd, Ord, Hash)]
 #[repr(u16)]
 pub enum Refusal {
@@ -85,8 +85,10 @@ pub enum Refusal {
     StoreFull = 14,
     /// turn: propose out of turn
     Turn = 15,
-    /// name: contents over 4,096 bytes
+    /// contents: over 4,096 bytes
     ContentsTooLong = 16,
+    /// contents: the name isn't the digest of parent, height and contents
+    NameWrong = 17,
 }
 
 impl Refusal {

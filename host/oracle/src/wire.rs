@@ -81,6 +81,21 @@ fn vote_at(bytes: &[u8], at: usize) -> Vote {
     Vote { view: View(u64_at(bytes, at)), name: name_at(bytes, at + 8) }
 }
 
+/// Where a proposal or a block has its block: name, parent, height. None in other kinds, and where it is cut short.
+pub fn block_place(record: &[u8]) -> Option<usize> {
+    let (at, length) = match (record.len() >= HEADER).then(|| kind_of(record))? {
+        kind::PROPOSAL => (16, PROPOSAL),
+        kind::BLOCK => (8, BLOCK),
+        _ => return None,
+    };
+    (record.len() >= length).then_some(at)
+}
+
+/// The block of a proposal or a block record, whatever else is wrong with it.
+pub fn block_of(record: &[u8]) -> Option<Block> {
+    block_place(record).map(|at| block_at(record, at))
+}
+
 // ---------------------------------------------------------------- shape
 
 /// The first of the refusals 3, 4 and 5 that holds of a slice, inner records included.

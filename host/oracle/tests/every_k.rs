@@ -31,7 +31,7 @@ fn release_record(sender: u16, view: u64, block: &Block) -> Vec<u8> {
 
 fn record_ran(replica: &mut Replica, record: &[u8]) -> (Vec<u8>, Ran) {
     let (mut out, mut ran) = (Vec::new(), Ran::default());
-    assert_eq!(literal::record(&mut replica.clone(), record, &mut out, &mut ran), Ok(out.len()));
+    assert_eq!(literal::record(&mut replica.clone(), record, None, &mut out, &mut ran), Ok(out.len()));
     assert_eq!(accept(replica, &[record.to_vec()]), out);
     (out, ran)
 }
@@ -46,7 +46,7 @@ fn timer_ran(replica: &mut Replica, view: u64) -> (Vec<u8>, Ran) {
 
 fn propose_ran(replica: &mut Replica, number: u8) -> (Vec<u8>, Ran) {
     let (mut out, mut ran, mut plain) = (Vec::new(), Ran::default(), Vec::new());
-    assert_eq!(literal::propose(&mut replica.clone(), name(number), &mut out, &mut ran), Ok(out.len()));
+    assert_eq!(literal::propose(&mut replica.clone(), name(number), None, &mut out, &mut ran), Ok(out.len()));
     assert_eq!(replica.propose(name(number), &mut plain), Ok(out.len()));
     assert_eq!(plain, out);
     (out, ran)

@@ -1,22 +1,63 @@
-//! Every refusal of every kind, and 01's order: a record that breaks two rules is refused by the earlier.
+//! Every refusal of every kind, and 01's order: a record that breaks two rules is refused by the earlier. Each is judged again
+//! with contents, by 02, 2.5: 16 comes before them, and 17 between 9 and 10.
 
 mod common;
 
 use common::breaks::*;
 use common::*;
-use oracle::{answer, Certificate, Height, Refusal, Replica, Timeout, View, Vote, GENESIS};
+use oracle::{answer, wire, Certificate, Height, Refusal, Replica, Timeout, View, Vote, CONTENTS, GENESIS};
 
 fn refused(replica: &Replica, record: &[u8], number: u16, what: &str) {
+    refused_call(replica, number, what, |replica, out| replica.record(record, out));
+    let with = |record: &[u8], contents: &[u8], number| {
+        let what = format!("{what}, {} bytes of contents", contents.len());
+        refused_call(replica, number, &what, |replica, out| replica.record_with(record, contents, out));
+    };
+    with(record, &[0; CONTENTS + 1], 16);
+    let by_name = number >= 10 && wire::block_of(record).is_some();
+    for contents in [&b""[..], b"of no block here"] {
+        with(record, contents, if by_name { 17 } else { number });
+    }
+    if by_name && number >= 12 {
+        let mut record = record.to_vec();
+        rename(&mut record, b"right");
+        with(&record, b"right", number);
+    }
+}
+
+fn refused_call(
+    replica: &Replica,
+    number: u16,
+    what: &str,
+    call: impl FnOnce(&mut Replica, &mut Vec<u8>) -> oracle::Reply,
+) {
     let mut after = replica.clone();
     let mut out = vec![7; 3];
-    let reply = after.record(record, &mut out);
+    let reply = call(&mut after, &mut out);
     assert_eq!(answer(reply), number, "{what}");
     assert!(after == *replica && out == [7; 3], "{what}: a refused call changes nothing");
+}
+
+/// The record is accepted with these contents, and does what it does without.
+fn accepted_with(replica: &Replica, record: &[u8], contents: &[u8]) {
+    let (mut plain, mut with) = (replica.clone(), replica.clone());
+    let (mut plain_out, mut with_out) = (Vec::new(), Vec::new());
+    let written = plain.record(record, &mut plain_out).expect("accepted without contents");
+    assert_eq!(with.record_with(record, contents, &mut with_out), Ok(written));
+    assert!(with == plain && with_out == plain_out);
 }
 
 /// The record is accepted; with one break it is refused by its number; with two breaks by the lower number.
 fn check_breaks(replica: &Replica, good: &[u8], breaks: &[Break]) {
     assert!(replica.clone().record(good, &mut Vec::new()).is_ok(), "the record without a break");
+    let mut named = good.to_vec();
+    for contents in [&b""[..], b"contents", &[9; CONTENTS]] {
+        if wire::block_of(good).is_some() {
+            rename(&mut named, contents);
+            refused_call(replica, 17, "contents of another", |replica, out| replica.record_with(good, contents, out));
+        }
+        accepted_with(replica, &named, contents);
+    }
     check_order(replica, good, breaks);
 }
 
@@ -430,15 +471,26 @@ fn leader(entered_by: u8) -> Replica {
     replica
 }
 
+/// The answer to propose. With contents that are too long it is 16, and with others the same or 17 before 14.
+fn propose_answer(replica: &Replica, number: u8) -> u16 {
+    let (mut after, mut out) = (replica.clone(), Vec::new());
+    let reply = after.propose(name(number), &mut out);
+    assert!(reply.is_ok() || (after == *replica && out.is_empty()));
+    let refused_with = |contents: &[u8], refusal| {
+        let call = |replica: &mut Replica, out: &mut Vec<u8>| replica.propose_with(name(number), contents, out);
+        refused_call(replica, refusal, "propose", call);
+    };
+    let plain = answer(reply);
+    refused_with(&[0; CONTENTS + 1], 16);
+    for contents in [&b""[..], b"of no block here"] {
+        refused_with(contents, if matches!(plain, 0 | 14) { 17 } else { plain });
+    }
+    plain
+}
+
 #[test]
 fn propose() {
-    let propose = |replica: &Replica, number: u8| {
-        let mut after = replica.clone();
-        let mut out = Vec::new();
-        let reply = after.propose(name(number), &mut out);
-        assert!(reply.is_ok() || (after == *replica && out.is_empty()));
-        answer(reply)
-    };
+    let propose = propose_answer;
     let good = leader(1);
     assert_eq!(propose(&good, 60), 0);
     assert_eq!(propose(&good, 0), 5);
@@ -489,6 +541,10 @@ fn a_state_that_breaks_a_rule_is_refused_2() {
         assert_eq!(replica.record(&[], &mut out), Err(Refusal::Regions));
         assert_eq!(replica.timer(View(0), &mut out), Err(Refusal::Regions));
         assert_eq!(replica.propose(GENESIS, &mut out), Err(Refusal::Regions));
+        for contents in [&[][..], &[0; CONTENTS + 1]] {
+            assert_eq!(replica.record_with(&[], contents, &mut out), Err(Refusal::Regions));
+            assert_eq!(replica.propose_with(GENESIS, contents, &mut out), Err(Refusal::Regions));
+        }
         assert!(replica == before && out.is_empty());
     }
 }

@@ -3,7 +3,7 @@
 
 pub mod breaks;
 
-use oracle::{wire, Block, Certificate, Height, Name, Replica, Timeout, View, Vote, GENESIS};
+use oracle::{block_name, wire, Block, Certificate, Height, Name, Replica, Timeout, View, Vote, GENESIS};
 
 /// Four signers: a block quorum of six.
 pub const FOUR: u64 = 0b01_1110;
@@ -52,6 +52,19 @@ pub fn proposal_record(sender: u16, view: u64, block: &Block, progress: &[u8]) -
 
 pub fn block_record(sender: u16, block: &Block) -> Vec<u8> {
     record(|out| wire::write_block(out, sender, block))
+}
+
+/// The block that has these contents.
+pub fn named(parent: Name, height: u64, contents: &[u8]) -> Block {
+    let height = Height(height);
+    Block { name: block_name(parent, height, contents).expect("at most 4,096 bytes"), parent, height }
+}
+
+/// Gives a proposal or a block record the name that its own parent and height have with these contents.
+pub fn rename(record: &mut [u8], contents: &[u8]) {
+    let at = wire::block_place(record).expect("a record with a block");
+    let block = wire::block_of(record).expect("a block");
+    record[at..at + 32].copy_from_slice(&named(block.parent, block.height.0, contents).name);
 }
 
 /// Hands records in that must be accepted; gives all output.
