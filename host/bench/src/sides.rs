@@ -78,6 +78,8 @@ impl Side for Library {
             Call::Record(bytes) => lent.record(bytes),
             Call::Timer(view) => lent.timer(*view),
             Call::Propose(name) => lent.propose(Name { bytes: *name }),
+            Call::RecordWith(bytes, contents) => lent.record_with(bytes, contents),
+            Call::ProposeWith(name, contents) => lent.propose_with(Name { bytes: *name }, contents),
         };
         reply.refusal == 0
     }

@@ -56,6 +56,8 @@ impl Library {
             AnyCall::Call(Call::Record(bytes)) => lent.record(bytes),
             AnyCall::Call(Call::Timer(view)) => lent.timer(*view),
             AnyCall::Call(Call::Propose(name)) => lent.propose(Name { bytes: *name }),
+            AnyCall::Call(Call::RecordWith(bytes, contents)) => lent.record_with(bytes, contents),
+            AnyCall::Call(Call::ProposeWith(name, contents)) => lent.propose_with(Name { bytes: *name }, contents),
         }
     }
 

@@ -80,8 +80,9 @@ pub fn compare_run(run: Run, calls: usize, faults: Faults, tally: &mut Tally) ->
         steps.push(script.next(pair.expected.replica.as_ref()));
         let step = &steps[steps.len() - 1];
         let before = pair.expected.replica.as_ref().map(|replica| replica.counters);
+        let meeting = pair.expected.replica.as_ref().and_then(|replica| step.meeting(replica));
         match pair.step(step) {
-            Ok(reply) => tally.count(step, reply, before, &pair.expected),
+            Ok(reply) => tally.count(step, reply, before, meeting, &pair.expected),
             Err(_) => return Err(shortest(run, steps, faults)),
         }
     }
@@ -142,6 +143,7 @@ impl Script {
             Kind::Opened => (random_rooms(&mut random), Stream::new(run.seed)),
             Kind::Garbage => (garbage_rooms(opening, &mut random), Stream::restless(run.seed)),
         };
+        let stream = stream.with_contents();
         Script { start, opening, random, stream, sound, begun: run.kind == Kind::Garbage }
     }
 
@@ -156,12 +158,17 @@ impl Script {
         if self.random.below(1000) < openings {
             return Step { lent, call: self.any_opening() };
         }
-        match self.random.below(1000) {
-            0..3 => return Step { lent, call: AnyCall::Call(Call::Record(self.noise())) },
-            3..6 => return Step { lent, call: AnyCall::Call(Call::Record(self.overlong())) },
-            _ => {}
-        }
-        Step { lent, call: AnyCall::Call(self.stream.next(replica.unwrap_or(&self.sound))) }
+        let odd = match self.random.below(1000) {
+            0..3 => Some(self.noise()),
+            3..6 => Some(self.overlong()),
+            _ => None,
+        };
+        let replica = replica.unwrap_or(&self.sound);
+        let call = match odd {
+            Some(record) => self.stream.join_contents(Call::Record(record), replica),
+            None => self.stream.next(replica),
+        };
+        Step { lent, call: AnyCall::Call(call) }
     }
 
     /// Mostly those of the start; at times longer, of odd length, or one of them too short.

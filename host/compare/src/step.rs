@@ -3,7 +3,8 @@
 use std::fmt;
 use std::str::FromStr;
 
-use streams::Call;
+use oracle::Replica;
+use streams::{Call, Meeting};
 
 #[derive(Clone, Debug, PartialEq, Eq)]
 pub enum AnyCall {
@@ -19,6 +20,16 @@ pub struct Step {
     pub call: AnyCall,
 }
 
+impl Step {
+    /// How contents meet the call, if it is made.
+    pub(crate) fn meeting(&self, replica: &Replica) -> Option<Meeting> {
+        match &self.call {
+            AnyCall::Open(..) => None,
+            AnyCall::Call(call) => Meeting::of(replica, call),
+        }
+    }
+}
+
 impl fmt::Display for Step {
     fn fmt(&self, f: &mut fmt::Formatter<'_>) -> fmt::Result {
         let [memory, store, output] = self.lent;
@@ -32,6 +43,12 @@ impl fmt::Display for Step {
             AnyCall::Call(Call::Record(bytes)) => write!(f, "record {}", hex(bytes)),
             AnyCall::Call(Call::Timer(view)) => write!(f, "timer {view}"),
             AnyCall::Call(Call::Propose(name)) => write!(f, "propose {}", hex(name)),
+            AnyCall::Call(Call::RecordWith(bytes, contents)) => {
+                write!(f, "record {} with {}", hex(bytes), hex(contents))
+            }
+            AnyCall::Call(Call::ProposeWith(name, contents)) => {
+                write!(f, "propose {} with {}", hex(name), hex(contents))
+            }
         }
     }
 }
@@ -57,12 +74,25 @@ fn parse(line: &str) -> Option<Step> {
             let (five, leaders) = rest.split_at_checked(5)?;
             AnyCall::Open(numbers(five)?, bytes(leaders)?)
         }
-        ["record", rest @ ..] => AnyCall::Call(Call::Record(bytes(rest)?)),
-        ["timer", view] => AnyCall::Call(Call::Timer(view.parse().ok()?)),
-        ["propose", name] => AnyCall::Call(Call::Propose(unhex(name)?.try_into().ok()?)),
-        _ => return None,
+        _ => AnyCall::Call(parse_call(rest)?),
     };
     Some(Step { lent, call })
+}
+
+/// Contents stand behind the word `with`, if any came.
+fn parse_call(words: &[&str]) -> Option<Call> {
+    let with = words.iter().position(|word| *word == "with");
+    let call = match &words[..with.unwrap_or(words.len())] {
+        ["record", record @ ..] => Call::Record(bytes(record)?),
+        ["timer", view] => Call::Timer(view.parse().ok()?),
+        ["propose", name] => Call::Propose(unhex(name)?.try_into().ok()?),
+        _ => return None,
+    };
+    match with {
+        None => Some(call),
+        Some(_) if matches!(call, Call::Timer(_)) => None,
+        Some(at) => Some(call.with(bytes(&words[at + 1..])?)),
+    }
 }
 
 pub(crate) fn numbers<const COUNT: usize>(words: &[&str]) -> Option<[u64; COUNT]> {
@@ -98,11 +128,28 @@ mod tests {
             AnyCall::Call(Call::Record(vec![0, 16, 255])),
             AnyCall::Call(Call::Timer(7)),
             AnyCall::Call(Call::Propose([9; 32])),
+            AnyCall::Call(Call::RecordWith(vec![], vec![])),
+            AnyCall::Call(Call::RecordWith(vec![1], vec![])),
+            AnyCall::Call(Call::RecordWith(vec![], vec![2])),
+            AnyCall::Call(Call::RecordWith(vec![0, 16, 255], vec![7; 4_097])),
+            AnyCall::Call(Call::ProposeWith([9; 32], vec![])),
+            AnyCall::Call(Call::ProposeWith([9; 32], vec![0, 1])),
         ] {
             let step = Step { lent: [34_568, 128, 0], call };
             assert_eq!(step.to_string().parse(), Ok(step));
         }
-        for line in ["", "1 2 3", "1 2 3 open 1 1 0 6", "1 2 3 open 1 1 0 6 2 00 05", "1 2 3 record 0", "1 2 timer 1"] {
+        for line in [
+            "",
+            "1 2 3",
+            "1 2 3 open 1 1 0 6",
+            "1 2 3 open 1 1 0 6 2 00 05",
+            "1 2 3 record 0",
+            "1 2 3 record 00 with 1",
+            "1 2 3 record 00 with 01 with 02",
+            "1 2 3 timer 1 with 01",
+            "1 2 3 with 01",
+            "1 2 timer 1",
+        ] {
             assert_eq!(line.parse::<Step>(), Err(format!("not a step: {line}")));
         }
     }

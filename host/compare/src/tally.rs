@@ -3,7 +3,7 @@
 use std::fmt;
 
 use oracle::{answer, Counters, Leaders, Refusal, Reply, Settings};
-use streams::{Coverage, Kind, Path, REACHABLE};
+use streams::{reachable, Coverage, Kind, Meeting, Path, Row};
 
 use crate::expected::Expected;
 use crate::step::{AnyCall, Step};
@@ -20,8 +20,15 @@ pub struct Tally {
 }
 
 impl Tally {
-    /// Counts a call that both sides made alike.
-    pub fn count(&mut self, step: &Step, reply: Reply, before: Option<Counters>, after: &Expected) {
+    /// Counts a call that both sides made alike, and how contents met it.
+    pub fn count(
+        &mut self,
+        step: &Step,
+        reply: Reply,
+        before: Option<Counters>,
+        meeting: Option<Meeting>,
+        after: &Expected,
+    ) {
         let call = match &step.call {
             AnyCall::Open(numbers, leaders) => {
                 self.count_opening(reply, *numbers, leaders);
@@ -33,6 +40,7 @@ impl Tally {
             (Some(replica), Some(before)) if reply != Err(Refusal::Regions) => {
                 let output = &after.rooms.output[..reply.unwrap_or(0)];
                 self.calls.count(call, reply, &before, replica, output);
+                self.calls.meet(meeting);
             }
             _ => self.calls.count_refused(call, Refusal::Regions),
         }
@@ -56,16 +64,22 @@ impl Tally {
         100 * (self.calls.accepted() + self.openings[0]) / self.compared().max(1)
     }
 
-    /// Pairs of 01's table that didn't come up.
-    pub fn missing(&self) -> Vec<(Kind, u16)> {
-        pairs().into_iter().filter(|(kind, answer)| self.calls.of(*kind, *answer) == 0).collect()
+    /// Pairs of the papers that didn't come up.
+    pub fn missing(&self) -> Vec<(Row, u16)> {
+        self.calls.missing(&pairs())
     }
 
-    /// Pairs that came up and aren't in the table.
-    pub fn unlisted(&self) -> Vec<(Kind, u16)> {
-        let listed = pairs();
-        let all = Kind::ALL.into_iter().flat_map(|kind| (0..16).map(move |answer| (kind, answer)));
-        all.filter(|pair| self.calls.of(pair.0, pair.1) > 0 && !listed.contains(pair)).collect()
+    /// Pairs that came up and that the papers don't have.
+    pub fn unlisted(&self) -> Vec<(Row, u16)> {
+        self.calls.unlisted(&pairs())
+    }
+
+    /// Ways in which right or wrong contents met no call; lent states add one to those of streams.
+    pub fn missing_meetings(&self) -> Vec<Meeting> {
+        let lent = Meeting { kind: Kind::Propose, right: false, plain: 13 };
+        let mut missing = self.calls.missing_meetings();
+        missing.extend(Some(lent).filter(|lent| self.calls.of_meeting(*lent) == 0));
+        missing
     }
 
     pub fn missing_paths(&self) -> Vec<Path> {
@@ -96,13 +110,11 @@ fn broken_rule(leaders: &[u8]) -> usize {
     }
 }
 
-/// What streams can reach, and what lent states add: 2 for every kind, and 13 for propose.
-fn pairs() -> Vec<(Kind, u16)> {
-    let mut pairs = vec![(Kind::Propose, 13)];
-    for (kind, answers) in REACHABLE {
-        pairs.push((kind, 2));
-        pairs.extend(answers.iter().map(|&answer| (kind, answer)));
-    }
+/// What streams can reach, and what lent states add: 2 for every row, and 13 for propose.
+fn pairs() -> Vec<(Row, u16)> {
+    let mut pairs = reachable();
+    pairs.extend(Row::all().into_iter().map(|row| (row, 2)));
+    pairs.extend([Row::Plain(Kind::Propose), Row::With(Kind::Propose)].map(|row| (row, 13)));
     pairs
 }
 

@@ -2,7 +2,7 @@
 
 use compare::{compare_part, Kind, Tally};
 use oracle::Faults;
-use streams::{Kind as Call, Path};
+use streams::{Kind as Call, Meeting, Path, Row};
 
 /// What 02, 2.2 added: settings that 01's bound kept out, a cluster of one among them, and rules that run in one call there.
 const WITH_EVERY_K: [Path; 6] = [
@@ -27,7 +27,7 @@ fn compare_half(kind: Kind) -> Tally {
     println!("{tally}");
     assert!(tally.compared() >= calls);
     assert!(tally.accepted_percent() >= 30);
-    assert_eq!(tally.unlisted(), [], "pairs that 01's table doesn't have");
+    assert_eq!(tally.unlisted(), [], "pairs that the papers don't have");
     for path in WITH_EVERY_K {
         assert!(tally.calls.of_path(path) > 100, "{path:?}: {}", tally.calls.of_path(path));
     }
@@ -37,19 +37,21 @@ fn compare_half(kind: Kind) -> Tally {
     tally
 }
 
-/// Openings over random bytes and long streams. The one pair missing takes a held block of height 2^62, the one path a
-/// list that opening refuses; garbage has both.
+/// Openings over random bytes and long streams. The pairs missing take a held block of height 2^62, with contents or
+/// without, and the one path a list that opening refuses; garbage has all.
 #[test]
 fn library_and_oracle_agree_from_openings() {
     let tally = compare_half(Kind::Opened);
-    assert_eq!(tally.missing(), [(Call::Propose, 13)]);
+    assert_eq!(tally.missing(), [(Row::Plain(Call::Propose), 13), (Row::With(Call::Propose), 13)]);
+    assert_eq!(tally.missing_meetings(), [Meeting { kind: Call::Propose, right: false, plain: 13 }]);
     assert_eq!(tally.missing_paths(), [Path::LedByNobody]);
 }
 
-/// Garbage counters, memory and store: each pair of 01's table comes up, 2 for every kind of call.
+/// Garbage counters, memory and store: each pair of the papers comes up, 2 for every kind of call.
 #[test]
 fn library_and_oracle_agree_from_garbage() {
     let tally = compare_half(Kind::Garbage);
     assert_eq!(tally.missing(), []);
+    assert_eq!(tally.missing_meetings(), []);
     assert_eq!(tally.missing_paths(), []);
 }

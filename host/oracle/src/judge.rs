@@ -203,6 +203,12 @@ impl Replica {
             && counters.view != View::MAX
     }
 
+    /// The block that propose makes of a name: on the safe block of the entry certificate, if that is held and below 2^62.
+    pub fn proposed(&self, name: Name) -> Option<Block> {
+        let parent = self.held(&self.safe_of(&wire::read_progress(self.memory.entry.record())).name)?;
+        Some(Block { name, parent: parent.name, height: parent.height.child()? })
+    }
+
     /// The held block of this name. 01: "The tip is held."
     pub fn held(&self, name: &Name) -> Option<Block> {
         self.memory.store.get(&self.counters.tip, name)

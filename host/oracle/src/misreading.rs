@@ -123,11 +123,7 @@ impl Beside<'_> {
                 Ok(Record::Block { block, .. }) => Some(block),
                 _ => None,
             },
-            Beside::Propose(name) => {
-                let safe = replica.safe_of(&wire::read_progress(replica.memory.entry.record()));
-                let parent = replica.held(&safe.name)?;
-                Some(Block { name, parent: safe.name, height: parent.height.child()? })
-            }
+            Beside::Propose(name) => replica.proposed(name),
         }
     }
 

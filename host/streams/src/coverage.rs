@@ -1,13 +1,15 @@
 //! Which answers and paths a set of streams came upon.
 
+use std::collections::BTreeMap;
 use std::fmt;
 
 use oracle::{answer, wire, Leaders, Refusal, Replica, Reply};
 
 use crate::call::Call;
+use crate::meeting::Meeting;
 
-/// The rows of the table: kinds of records that a replica knows, its other calls, and all other slices.
-#[derive(Clone, Copy, Debug, PartialEq, Eq)]
+/// Kinds of records that a replica knows, its other calls, and all other slices.
+#[derive(Clone, Copy, Debug, PartialEq, Eq, PartialOrd, Ord)]
 pub enum Kind {
     Vote,
     Commit,
@@ -39,9 +41,9 @@ impl Kind {
     pub fn of(call: &Call) -> Kind {
         match call {
             Call::Timer(_) => Kind::Timer,
-            Call::Propose(_) => Kind::Propose,
-            Call::Record(bytes) if bytes.len() < wire::HEADER => Kind::Foreign,
-            Call::Record(bytes) => match wire::kind_of(bytes) {
+            Call::Propose(_) | Call::ProposeWith(..) => Kind::Propose,
+            Call::Record(bytes) | Call::RecordWith(bytes, _) if bytes.len() < wire::HEADER => Kind::Foreign,
+            Call::Record(bytes) | Call::RecordWith(bytes, _) => match wire::kind_of(bytes) {
                 wire::kind::VOTE => Kind::Vote,
                 wire::kind::COMMIT => Kind::Commit,
                 wire::kind::BLOCK_CERTIFICATE => Kind::BlockCertificate,
@@ -53,10 +55,63 @@ impl Kind {
             },
         }
     }
+
+    /// Whether contents that come with it must be the block's.
+    pub fn brings_block(self) -> bool {
+        matches!(self, Kind::Proposal | Kind::Block | Kind::Propose)
+    }
 }
 
-/// The answers that calls from an opened replica can get, by 01's table.
-pub const REACHABLE: [(Kind, &[u16]); 10] = [
+/// A row of the table: a kind of call without contents, or with.
+#[derive(Clone, Copy, Debug, PartialEq, Eq)]
+pub enum Row {
+    Plain(Kind),
+    With(Kind),
+}
+
+impl Row {
+    const COUNT: usize = 2 * Kind::ALL.len();
+
+    pub fn of(call: &Call) -> Row {
+        match call.contents() {
+            None => Row::Plain(Kind::of(call)),
+            Some(_) => Row::With(Kind::of(call)),
+        }
+    }
+
+    /// A timer has no contents.
+    pub fn all() -> Vec<Row> {
+        let with = Kind::ALL.into_iter().filter(|kind| *kind != Kind::Timer).map(Row::With);
+        Kind::ALL.into_iter().map(Row::Plain).chain(with).collect()
+    }
+
+    fn index(self) -> usize {
+        match self {
+            Row::Plain(kind) => kind as usize,
+            Row::With(kind) => Kind::ALL.len() + kind as usize,
+        }
+    }
+
+    /// The answers that this row can get from an opened replica: with contents also 16, and 17 where they come with a block.
+    fn reachable(self) -> Vec<u16> {
+        let (Row::Plain(kind) | Row::With(kind)) = self;
+        let (_, answers) = REACHABLE[kind as usize];
+        let with: &[u16] = match self {
+            Row::Plain(_) => &[],
+            Row::With(kind) if kind.brings_block() => &[16, 17],
+            Row::With(_) => &[16],
+        };
+        [answers, with].concat()
+    }
+}
+
+/// The pairs (row, answer) that calls from an opened replica can come upon.
+pub fn reachable() -> Vec<(Row, u16)> {
+    Row::all().into_iter().flat_map(|row| row.reachable().into_iter().map(move |answer| (row, answer))).collect()
+}
+
+/// The answers that calls without contents can get there, by 01's table.
+pub(crate) const REACHABLE: [(Kind, &[u16]); 10] = [
     (Kind::Vote, &[0, 3, 5, 6, 7, 8, 10, 11]),
     (Kind::Commit, &[0, 3, 5, 6, 7, 8, 10, 11]),
     (Kind::BlockCertificate, &[0, 3, 5, 6, 8, 9, 10]),
@@ -144,18 +199,22 @@ impl Path {
     ];
 }
 
-/// Counts of (kind, answer) pairs and of paths.
+/// One more than the highest answer.
+const ANSWERS: usize = 18;
+
+/// Counts of (row, answer) pairs, of paths, and of how contents met calls.
 #[derive(Clone, Debug, Default)]
 pub struct Coverage {
-    answers: [[u64; 16]; 10],
+    answers: [[u64; ANSWERS]; Row::COUNT],
     paths: [u64; Path::ALL.len()],
+    meetings: BTreeMap<Meeting, u64>,
 }
 
 impl Coverage {
     /// Counts one call: the replica before and after it, and what it wrote.
     pub fn count(&mut self, call: &Call, reply: Reply, before: &oracle::Counters, after: &Replica, output: &[u8]) {
         let kind = Kind::of(call);
-        self.answers[kind as usize][usize::from(answer(reply))] += 1;
+        self.answers[Row::of(call).index()][usize::from(answer(reply))] += 1;
         self.count_leaders(call, reply, before, after);
         if reply.is_ok() {
             self.count_certificates(kind, before, after, output);
@@ -167,9 +226,9 @@ impl Coverage {
 
     /// By whose turn a proposal, another's or one's own, was taken or refused.
     fn count_leaders(&mut self, call: &Call, reply: Reply, before: &oracle::Counters, after: &Replica) {
-        let (view, sender) = match call {
-            Call::Propose(_) => (before.view.0, after.own()),
-            Call::Record(bytes) if Kind::of(call) == Kind::Proposal && bytes.len() >= wire::PROPOSAL => {
+        let (view, sender) = match (Kind::of(call), call.record()) {
+            (Kind::Propose, _) => (before.view.0, after.own()),
+            (Kind::Proposal, Some(bytes)) if bytes.len() >= wire::PROPOSAL => {
                 (wire::u64_at(bytes, 8), wire::sender_of(bytes))
             }
             _ => return,
@@ -191,11 +250,22 @@ impl Coverage {
 
     /// Counts a call on a state that can't be read.
     pub fn count_refused(&mut self, call: &Call, refusal: Refusal) {
-        self.answers[Kind::of(call) as usize][usize::from(refusal.number())] += 1;
+        self.answers[Row::of(call).index()][usize::from(refusal.number())] += 1;
     }
 
-    pub fn of(&self, kind: Kind, answer: u16) -> u64 {
-        self.answers[kind as usize][usize::from(answer)]
+    /// Counts how contents met a call.
+    pub fn meet(&mut self, meeting: Option<Meeting>) {
+        if let Some(meeting) = meeting {
+            *self.meetings.entry(meeting).or_default() += 1;
+        }
+    }
+
+    pub fn of(&self, row: Row, answer: u16) -> u64 {
+        self.answers[row.index()][usize::from(answer)]
+    }
+
+    pub fn of_meeting(&self, meeting: Meeting) -> u64 {
+        self.meetings.get(&meeting).copied().unwrap_or(0)
     }
 
     pub fn of_path(&self, path: Path) -> u64 {
@@ -214,17 +284,20 @@ impl Coverage {
         100 * self.accepted() / self.calls().max(1)
     }
 
-    /// Reachable pairs that didn't come up.
-    pub fn missing(&self) -> Vec<(Kind, u16)> {
-        let pairs = REACHABLE.iter().flat_map(|(kind, answers)| answers.iter().map(move |answer| (*kind, *answer)));
-        pairs.filter(|(kind, answer)| self.of(*kind, *answer) == 0).collect()
+    /// Those of these pairs that didn't come up.
+    pub fn missing(&self, pairs: &[(Row, u16)]) -> Vec<(Row, u16)> {
+        pairs.iter().copied().filter(|(row, answer)| self.of(*row, *answer) == 0).collect()
     }
 
-    /// Pairs that came up although they aren't listed as reachable.
-    pub fn unlisted(&self) -> Vec<(Kind, u16)> {
-        let listed = |kind: Kind, answer: u16| REACHABLE.iter().any(|(k, list)| *k == kind && list.contains(&answer));
-        let pairs = Kind::ALL.iter().flat_map(|kind| (0..16).map(move |answer| (*kind, answer)));
-        pairs.filter(|(kind, answer)| self.of(*kind, *answer) > 0 && !listed(*kind, *answer)).collect()
+    /// Pairs that came up although they aren't listed.
+    pub fn unlisted(&self, listed: &[(Row, u16)]) -> Vec<(Row, u16)> {
+        let all = Row::all().into_iter().flat_map(|row| (0..ANSWERS as u16).map(move |answer| (row, answer)));
+        all.filter(|pair| self.of(pair.0, pair.1) > 0 && !listed.contains(pair)).collect()
+    }
+
+    /// Reachable ways in which contents met no call.
+    pub fn missing_meetings(&self) -> Vec<Meeting> {
+        Meeting::reachable().into_iter().filter(|meeting| self.of_meeting(*meeting) == 0).collect()
     }
 
     /// Paths that no call took.
@@ -310,16 +383,26 @@ fn wrote(output: &[u8], kind: u16) -> bool {
     wire::records(output).any(|record| wire::kind_of(record) == kind)
 }
 
-/// A table of calls by kind and answer, then the paths.
+/// A line of the table: a title, and something for each answer but 1, which only openings get.
+fn write_line(f: &mut fmt::Formatter<'_>, title: &str, entry: impl Fn(u16) -> u64) -> fmt::Result {
+    write!(f, "{title:<26}")?;
+    (0..ANSWERS as u16).filter(|answer| *answer != 1).try_for_each(|answer| write!(f, "{:>8}", entry(answer)))?;
+    writeln!(f)
+}
+
+/// A table of calls by row and answer, one of contents that were right and wrong by the answer without them, then the paths.
 impl fmt::Display for Coverage {
     fn fmt(&self, f: &mut fmt::Formatter<'_>) -> fmt::Result {
-        write!(f, "{:<20}", "answer")?;
-        (0..16).filter(|answer| *answer != 1).try_for_each(|answer| write!(f, "{answer:>8}"))?;
-        writeln!(f)?;
-        for kind in Kind::ALL {
-            write!(f, "{:<20}", format!("{kind:?}"))?;
-            (0..16).filter(|answer| *answer != 1).try_for_each(|answer| write!(f, "{:>8}", self.of(kind, answer)))?;
-            writeln!(f)?;
+        write_line(f, "answer", u64::from)?;
+        for row in Row::all() {
+            write_line(f, &format!("{row:?}"), |answer| self.of(row, answer))?;
+        }
+        write_line(f, "answer without contents", u64::from)?;
+        for kind in Kind::ALL.into_iter().filter(|kind| kind.brings_block()) {
+            for (title, right) in [("right", true), ("wrong", false)] {
+                let count = |plain| self.of_meeting(Meeting { kind, right, plain });
+                write_line(f, &format!("{kind:?}, {title} contents"), count)?;
+            }
         }
         for path in Path::ALL {
             writeln!(f, "{:<28}{:>10}", format!("{path:?}"), self.of_path(path))?;

@@ -4,6 +4,7 @@ use oracle::{run, wire, Refusal, Replica};
 
 use crate::call::Call;
 use crate::coverage::Coverage;
+use crate::meeting::Meeting;
 use crate::opening::Opening;
 use crate::random::Random;
 use crate::stream::Stream;
@@ -15,15 +16,20 @@ pub struct Played {
     pub replica: Replica,
 }
 
-/// Plays so many calls of a stream on a replica and counts what they cover.
+/// Plays so many calls of a stream on a replica and counts what they cover. None comes with contents.
 pub fn play(opening: Opening, seed: u64, count: usize, coverage: &mut Coverage) -> Played {
+    play_stream(opening, Stream::new(seed), count, coverage)
+}
+
+/// The same of any stream.
+pub fn play_stream(opening: Opening, mut stream: Stream, count: usize, coverage: &mut Coverage) -> Played {
     let mut replica = opening.open();
-    let mut stream = Stream::new(seed);
     let mut calls = Vec::with_capacity(count);
     let mut out = Vec::with_capacity(1 << 15);
     for _ in 0..count {
         let call = stream.next(&replica);
         let before = replica.counters;
+        coverage.meet(Meeting::of(&replica, &call));
         out.clear();
         let reply = call.make(&mut replica, &mut out);
         coverage.count(&call, reply, &before, &replica, &out);

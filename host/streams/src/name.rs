@@ -44,7 +44,7 @@ impl NameStream {
         if self.random.chance(5) {
             return GENESIS;
         }
-        self.bytes(GENESIS.len()).try_into().expect("as many bytes as a name has")
+        self.random.bytes(GENESIS.len()).try_into().expect("as many bytes as a name has")
     }
 
     /// Any, those that no block has among them.
@@ -58,13 +58,7 @@ impl NameStream {
         if self.random.chance(10) {
             return vec![self.random.pick(&[0, 1, 0x80, 0xFF]); self.length];
         }
-        self.bytes(self.length)
-    }
-
-    fn bytes(&mut self, length: usize) -> Vec<u8> {
-        let mut bytes: Vec<u8> = (0..length.div_ceil(8)).flat_map(|_| self.random.number().to_le_bytes()).collect();
-        bytes.truncate(length);
-        bytes
+        self.random.bytes(self.length)
     }
 }
 

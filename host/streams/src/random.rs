@@ -16,6 +16,12 @@ impl Random {
         z ^ (z >> 31)
     }
 
+    pub fn bytes(&mut self, length: usize) -> Vec<u8> {
+        let mut bytes: Vec<u8> = (0..length.div_ceil(8)).flat_map(|_| self.number().to_le_bytes()).collect();
+        bytes.truncate(length);
+        bytes
+    }
+
     /// Below `end`, which isn't 0.
     pub fn below(&mut self, end: u64) -> u64 {
         self.number() % end

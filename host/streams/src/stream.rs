@@ -3,6 +3,7 @@
 use oracle::{Replica, View};
 
 use crate::call::Call;
+use crate::contents::Contents;
 use crate::good::Maker;
 use crate::leaders::next_led;
 use crate::random::Random;
@@ -103,6 +104,8 @@ pub struct Stream {
     jumps: bool,
     /// Whether moods change after a few calls.
     restless: bool,
+    /// Where calls come with contents at times.
+    contents: Option<Contents>,
 }
 
 impl Stream {
@@ -110,7 +113,7 @@ impl Stream {
         let mut random = Random::new(seed);
         let spoiled = random.pick(&[10, 30, 45]);
         let jumps = random.chance(25);
-        Stream { random, mood: Mood::Progress, left: 20, spoiled, jumps, restless: false }
+        Stream { random, mood: Mood::Progress, left: 20, spoiled, jumps, restless: false, contents: None }
     }
 
     /// A stream for few calls: moods change soon, from the first call on, and fewer calls are spoiled.
@@ -118,8 +121,27 @@ impl Stream {
         Stream { left: 0, spoiled: 8, restless: true, ..Stream::new(seed) }
     }
 
+    /// The same in which calls come with contents, and new blocks are named by theirs, at times.
+    pub fn with_contents(mut self) -> Stream {
+        self.contents = Some(Contents::new(self.random.clone().number()));
+        self
+    }
+
     /// The next call, in view of the replica's state.
     pub fn next(&mut self, replica: &Replica) -> Call {
+        let call = self.plain(replica);
+        self.join_contents(call, replica)
+    }
+
+    /// The call as it is, or with contents where they come.
+    pub fn join_contents(&mut self, call: Call, replica: &Replica) -> Call {
+        match &mut self.contents {
+            Some(contents) => contents.join(call, replica),
+            None => call,
+        }
+    }
+
+    fn plain(&mut self, replica: &Replica) -> Call {
         self.change_mood(replica);
         let action = self.random.weighted(self.mood.actions());
         let spoiled = self.random.chance(self.spoiled);

@@ -1,16 +1,17 @@
 //! Streams reach every answer and every path, and one seed always gives the same.
 
-use streams::{input, play, Coverage, Opening, Path, Stream};
+use streams::{input, play, play_stream, reachable, Coverage, Opening, Path, Stream};
 
 #[test]
 fn every_reachable_answer_and_path_comes_up() {
     let mut coverage = Coverage::default();
-    for seed in 0..100 {
-        play(Opening::seeded_led(seed), seed, 1000, &mut coverage);
+    for seed in 0..150 {
+        play_stream(Opening::seeded_led(seed), Stream::new(seed).with_contents(), 1000, &mut coverage);
     }
     println!("{coverage}");
-    assert_eq!(coverage.missing(), [], "reachable pairs (kind, answer)");
-    assert_eq!(coverage.unlisted(), [], "pairs that 01's table doesn't have");
+    assert_eq!(coverage.missing(&reachable()), [], "reachable pairs (row, answer)");
+    assert_eq!(coverage.unlisted(&reachable()), [], "pairs that the papers don't have");
+    assert_eq!(coverage.missing_meetings(), [], "right and wrong contents, by what the call answers without them");
     assert_eq!(coverage.missing_paths(), [Path::LedByNobody], "opening refuses such a list");
     for (path, times) in [
         (Path::NoByzantine, 10_000),
@@ -29,7 +30,7 @@ fn every_reachable_answer_and_path_comes_up() {
 fn refused_calls_change_nothing() {
     for seed in 1000..1010 {
         let mut replica = Opening::seeded_led(seed).open();
-        let mut stream = Stream::new(seed);
+        let mut stream = Stream::new(seed).with_contents();
         let mut out = Vec::new();
         for _ in 0..500 {
             let call = stream.next(&replica);

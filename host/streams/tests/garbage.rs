@@ -49,7 +49,7 @@ fn no_call_traps() {
     for seed in 0..3_000 {
         let mut replica = garbage(Opening::seeded_led(seed), &mut random);
         assert!(replica.is_sound());
-        let mut stream = Stream::new(seed);
+        let mut stream = Stream::new(seed).with_contents();
         for _ in 0..20 {
             let call = stream.next(&replica);
             let before = replica.clone();

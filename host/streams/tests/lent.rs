@@ -1,7 +1,7 @@
 //! Lent regions of any content: what their inputs cover, and that loading and saving lose no byte.
 
 use oracle::lent;
-use streams::{lent_input, Kind, LentCoverage, Path};
+use streams::{lent_input, Kind, LentCoverage, Path, Row};
 
 /// Playing an input also compares each call with 01's loop to the letter.
 #[test]
@@ -16,10 +16,10 @@ fn calls_on_garbage_come_upon_every_rule_and_answer() {
     assert!(coverage.too_many > 5, "{} states with an n over 32", coverage.too_many);
     assert!(coverage.openings.iter().all(|&times| times > 0));
     assert!(Path::ALL.into_iter().all(|path| calls.of_path(path) > 0), "{:?}", calls.missing_paths());
-    assert!(Kind::ALL[..9].iter().all(|kind| calls.of(*kind, 0) > 50));
+    assert!(Kind::ALL[..9].iter().all(|kind| calls.of(Row::Plain(*kind), 0) > 50));
     assert!((0..16)
         .filter(|answer| *answer != 1)
-        .all(|answer| Kind::ALL.iter().any(|kind| calls.of(*kind, answer) > 0)));
+        .all(|answer| Kind::ALL.iter().any(|kind| calls.of(Row::Plain(*kind), answer) > 0)));
 }
 
 /// Each state and each call has its line; a seed gives the same input again.

@@ -4,7 +4,7 @@ use std::io::{self, Write};
 use std::path::Path;
 use std::process::ExitCode;
 
-use streams::{input, lent_input, play, Coverage, LentCoverage, Opening, UNREACHABLE};
+use streams::{input, lent_input, play_stream, reachable, Coverage, LentCoverage, Opening, Stream, UNREACHABLE};
 
 const USAGE: &str = "\
 usage: streams input SEED CALLS [F C K OWN] > FILE   one input of the run program
@@ -84,10 +84,11 @@ fn write_files(directory: &Path, first: u64, count: u64, calls: usize) -> io::Re
 fn print_coverage(first: u64, count: u64, calls: usize) {
     let mut coverage = Coverage::default();
     for seed in first..first + count {
-        play(Opening::seeded_led(seed), seed, calls, &mut coverage);
+        play_stream(Opening::seeded_led(seed), Stream::new(seed).with_contents(), calls, &mut coverage);
     }
     println!("{coverage}");
-    println!("not reached: {:?} {:?}", coverage.missing(), coverage.missing_paths());
+    println!("not reached: {:?} {:?}", coverage.missing(&reachable()), coverage.missing_paths());
+    println!("contents not met: {:?}", coverage.missing_meetings());
     for (call, answer, reason) in UNREACHABLE {
         println!("unreachable: {call} {answer}: {reason}");
     }
