@@ -1,23 +1,34 @@
-//! The comparison notices errors: with each of the oracle's eleven, one at a time, a difference is found, few calls
-//! show it, and what is printed replays it.
+//! The comparison notices errors: with each of the oracle's eleven and each misreading of contents, one at a time, a difference
+//! is found, few calls show it, and what is printed replays it.
 
 use compare::{compare_part, replay, Kind, Mismatch};
-use oracle::Faults;
+use oracle::{Faults, Misreading};
 
 /// The calls that are compared at most, and that may be left to show the difference: a release by one vote too few takes 31
 /// votes where n is 32 and p is 0.
 const CALLS: u64 = 60_000;
 const FEW: usize = 36;
 
-fn notices(kind: Kind, fault: &str) -> usize {
-    let mut faults = Faults::NONE;
-    assert!(faults.set(fault));
+fn notices(kind: Kind, what: &str, faults: Faults) {
     let mismatch = compare_part(kind, 0, CALLS, faults).expect_err("a difference");
     let steps = mismatch.steps.len();
-    println!("{fault}, {kind:?}: {steps} calls, seed {}: {}", mismatch.run.seed, mismatch.difference);
+    println!("{what}, {kind:?}: {steps} calls, seed {}: {}", mismatch.run.seed, mismatch.difference);
     assert!(steps <= FEW);
     replays(&mismatch, faults);
-    steps
+}
+
+fn notices_each_fault(kind: Kind) {
+    for name in Faults::NAMES {
+        let mut faults = Faults::NONE;
+        assert!(faults.set(name));
+        notices(kind, name, faults);
+    }
+}
+
+fn notices_each_misreading(kind: Kind) {
+    for misreading in Misreading::ALL {
+        notices(kind, &format!("{misreading:?}"), Faults { misreading: Some(misreading), ..Faults::NONE });
+    }
 }
 
 fn replays(mismatch: &Mismatch, faults: Faults) {
@@ -29,14 +40,20 @@ fn replays(mismatch: &Mismatch, faults: Faults) {
 
 #[test]
 fn each_fault_is_noticed_from_garbage() {
-    for fault in Faults::NAMES {
-        notices(Kind::Garbage, fault);
-    }
+    notices_each_fault(Kind::Garbage);
 }
 
 #[test]
 fn each_fault_is_noticed_from_openings() {
-    for fault in Faults::NAMES {
-        notices(Kind::Opened, fault);
-    }
+    notices_each_fault(Kind::Opened);
+}
+
+#[test]
+fn each_misreading_is_noticed_from_garbage() {
+    notices_each_misreading(Kind::Garbage);
+}
+
+#[test]
+fn each_misreading_is_noticed_from_openings() {
+    notices_each_misreading(Kind::Opened);
 }

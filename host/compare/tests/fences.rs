@@ -65,6 +65,7 @@ struct Regions {
     store: Fenced<Block>,
     output: Fenced<u8>,
     record: Fenced<u8>,
+    contents: Fenced<u8>,
     leaders: Fenced<u8>,
 }
 
@@ -76,6 +77,7 @@ impl Regions {
             store: Fenced::new(2 * raw::STORE),
             output: Fenced::new(2 * raw::OUTPUT),
             record: Fenced::new(1 << 17),
+            contents: Fenced::new(1 << 17),
             leaders: Fenced::new(PAGE),
         }
     }
@@ -98,6 +100,18 @@ impl Regions {
             AnyCall::Call(Call::Record(bytes)) => lent.record(self.record.hold(bytes, behind)),
             AnyCall::Call(Call::Timer(view)) => lent.timer(*view),
             AnyCall::Call(Call::Propose(name)) => lent.propose(Name { bytes: *name }),
+            AnyCall::Call(Call::RecordWith(bytes, contents)) => {
+                let (record, held) = (self.record.hold(bytes, behind), self.contents.hold(contents, behind));
+                let reply = lent.record_with(record, held);
+                assert!(black_box(record) == bytes && black_box(held) == contents); // else they count as unchanged
+                reply
+            }
+            AnyCall::Call(Call::ProposeWith(name, contents)) => {
+                let held = self.contents.hold(contents, behind);
+                let reply = lent.propose_with(Name { bytes: *name }, held);
+                assert!(black_box(held) == contents);
+                reply
+            }
         };
         let left = [
             raw::counters_bytes(lent.counters).to_vec(),

@@ -53,9 +53,12 @@ impl Contents {
     fn join_block(&mut self, mut record: Vec<u8>, mut block: Block, replica: &Replica) -> Call {
         let voted = replica.counters.high_vote.name;
         let is_new = block.name != voted && is_fresh(block.name, replica);
-        if is_new && self.random.chance(self.share) {
+        let misnamed = if self.random.chance(5) { self.misnamed(replica) } else { None };
+        if let Some(made) = misnamed {
+            block = made;
+        } else if is_new && self.random.chance(self.share) {
             block.name = self.name_near(block.parent, block.height);
-        } else if !is_new && self.random.chance(50) {
+        } else if !is_new && self.random.chance(70) {
             block = self.made(block.name).unwrap_or(block);
         }
         put_block(&mut record, &block);
@@ -64,7 +67,7 @@ impl Contents {
 
     fn join_propose(&mut self, mut name: Name, replica: &Replica) -> Call {
         if let Some(block) = replica.proposed(name).filter(|_| is_fresh(name, replica)) {
-            let held = self.held_under(&block, replica).filter(|_| self.random.chance(10));
+            let held = if self.random.chance(10) { self.held_digest(&block, replica) } else { None };
             if let Some(held) = held {
                 name = held;
             } else if self.random.chance(self.share) {
@@ -74,10 +77,16 @@ impl Contents {
         self.choose(Call::Propose(name), name)
     }
 
-    /// A held block's name that is the digest of this one's parent and height.
-    fn held_under(&self, block: &Block, replica: &Replica) -> Option<Name> {
-        let is_digest = |name: &Name| self.made(*name).is_some_and(|made| made == Block { name: *name, ..*block });
-        replica.memory.store.blocks().iter().map(|held| held.name).find(is_digest)
+    /// A held block's name that was made for the parent and height of this one.
+    fn held_digest(&self, block: &Block, replica: &Replica) -> Option<Name> {
+        let mut held = replica.memory.store.blocks().iter().map(|held| held.name);
+        held.find(|&name| self.made(name) == Some(Block { name, ..*block }))
+    }
+
+    /// What the name of a held block was made for, where that is another block.
+    fn misnamed(&self, replica: &Replica) -> Option<Block> {
+        let mut held = replica.memory.store.blocks().iter();
+        held.find_map(|held| self.made(held.name).filter(|made| made != held))
     }
 
     /// For the block that is proposed; at times for one on the tip, or of the height below.
