@@ -6,7 +6,7 @@ use std::arch::asm;
 
 use compare::{AnyCall, Expected, Kind, Library, Run, Step};
 use oracle::lent::Rooms;
-use oracle::{wire, Block, Certificate, Faults, Height, Settings, Timeout, View, Vote};
+use oracle::{block_name, wire, Block, Certificate, Faults, Height, Settings, Timeout, View, Vote, CONTENTS};
 use replica::raw;
 use streams::{Call, DecisiveCall, DecisiveStream, NameCall, NameStream};
 
@@ -39,16 +39,24 @@ fn depth_of(call: impl FnOnce()) -> usize {
     PAINTED - 8 * unchanged.count()
 }
 
-/// The deepest of these calls by kind of call: open, record, timer, propose.
-fn depths(rooms: Rooms, steps: impl IntoIterator<Item = Step>) -> [usize; 4] {
+/// The kinds of call.
+const CALLS: [&str; 6] = ["open", "record", "timer", "propose", "record with contents", "propose with contents"];
+
+/// The deepest call of each kind.
+type Depths = [usize; CALLS.len()];
+
+/// The depths of these calls.
+fn depths(rooms: Rooms, steps: impl IntoIterator<Item = Step>) -> Depths {
     let mut library = Library::new(&rooms);
-    let mut deepest = [0; 4];
+    let mut deepest = Depths::default();
     for step in steps {
         let kind = match step.call {
             AnyCall::Open(..) => 0,
             AnyCall::Call(Call::Record(_)) => 1,
             AnyCall::Call(Call::Timer(_)) => 2,
             AnyCall::Call(Call::Propose(_)) => 3,
+            AnyCall::Call(Call::RecordWith(..)) => 4,
+            AnyCall::Call(Call::ProposeWith(..)) => 5,
         };
         let depth = depth_of(|| {
             library.step(&step);
@@ -63,8 +71,30 @@ fn on_a_thread<T: Send + 'static>(measure: impl FnOnce() -> T + Send + 'static) 
     thread.join().expect("a depth")
 }
 
-fn higher(one: [usize; 4], two: [usize; 4]) -> [usize; 4] {
+fn higher(one: Depths, two: Depths) -> Depths {
     std::array::from_fn(|i| one[i].max(two[i]))
+}
+
+/// Prints the depths of the kinds that were called; none is over the bound.
+fn within_bound(title: &str, deepest: Depths) {
+    let called: Vec<_> = CALLS.into_iter().zip(deepest).filter(|(_, depth)| *depth > 0).collect();
+    println!("{title}: {called:?} bytes of stack");
+    assert!(!called.is_empty() && called.iter().all(|(_, depth)| *depth <= BOUND));
+}
+
+/// The same call with the longest contents, if it takes any: those of the block that it proposes.
+fn with_contents(rooms: &Rooms, step: &Step) -> Option<Step> {
+    let contents = vec![0xC5; CONTENTS];
+    let call = match &step.call {
+        AnyCall::Call(Call::Propose(name)) => {
+            let oracle = Expected::new(rooms.clone(), Faults::NONE);
+            let block = oracle.replica.expect("a replica").proposed(*name).expect("a safe block that is held");
+            Call::Propose(block_name(block.parent, block.height, &contents).expect("taken")).with(contents)
+        }
+        AnyCall::Call(call @ Call::Record(_)) => call.clone().with(contents),
+        _ => return None,
+    };
+    Some(Step { lent: step.lent, call: AnyCall::Call(call) })
 }
 
 fn name(number: u64) -> [u8; 32] {
@@ -167,7 +197,7 @@ fn last_two_swapped(mut rooms: Rooms, entries: usize) -> Rooms {
 /// Runs of both kinds.
 #[test]
 fn stack_of_runs() {
-    let mut deepest = [0; 4];
+    let mut deepest = Depths::default();
     for (kind, seeds) in [(Kind::Opened, 10), (Kind::Garbage, 300)] {
         for seed in 0..seeds {
             let run = Run { kind, seed };
@@ -175,22 +205,26 @@ fn stack_of_runs() {
             deepest = higher(deepest, on_a_thread(move || depths(run.start(), steps)));
         }
     }
-    println!("runs: {deepest:?} bytes of stack in open, record, timer, propose");
-    assert!(deepest.iter().all(|&depth| depth > 0 && depth <= BOUND));
+    within_bound("runs", deepest);
+    assert!(deepest.iter().all(|&depth| depth > 0));
 }
 
-/// The depth of a call that releases up to this height at least.
-fn depth_of_release(rooms: Rooms, step: Step, height: u64) -> [usize; 4] {
-    let mut oracle = Expected::new(rooms.clone(), Faults::NONE);
-    assert!(oracle.step(&step).is_ok());
-    assert!(oracle.replica.expect("a replica").counters.tip.height >= Height(height));
-    on_a_thread(move || depths(rooms, [step]))
+/// The depth of a call that releases up to this height at least, without contents and with.
+fn depth_of_release(rooms: Rooms, step: Step, height: u64) -> Depths {
+    let steps = [with_contents(&rooms, &step), Some(step)].into_iter().flatten();
+    steps.fold(Depths::default(), |deepest, step| {
+        let mut oracle = Expected::new(rooms.clone(), Faults::NONE);
+        assert!(oracle.step(&step).is_ok());
+        assert!(oracle.replica.expect("a replica").counters.tip.height >= Height(height));
+        let rooms = rooms.clone();
+        higher(deepest, on_a_thread(move || depths(rooms, [step])))
+    })
 }
 
 /// In a full store the lowest block is released, or the highest of the chain, or one between. For propose there is a
 /// place left.
 fn depths_of_releases(title: &str, held: fn(u64) -> Vec<u64>, lent: fn(Rooms, usize) -> Rooms, released: &[u64]) {
-    let mut deepest = [0; 4];
+    let mut deepest = Depths::default();
     for &number in released {
         let timer = step(AnyCall::Call(Call::Timer(2)));
         let propose = step(AnyCall::Call(Call::Propose([9; 32])));
@@ -203,9 +237,7 @@ fn depths_of_releases(title: &str, held: fn(u64) -> Vec<u64>, lent: fn(Rooms, us
             deepest = higher(deepest, depth_of_release(rooms, step, below.min(125)));
         }
     }
-    let [_, record, timer, propose] = deepest;
-    println!("{title}: {record} bytes of stack in record, {timer} in timer, {propose} in propose");
-    assert!([record, timer, propose].iter().all(|&depth| depth > 0 && depth <= BOUND));
+    within_bound(title, deepest);
 }
 
 #[test]
@@ -243,7 +275,7 @@ fn many_lacking_names(settings: [u64; 3], blocks: u64) -> Rooms {
 fn stack_of_the_longest_search() {
     let timeout = Timeout { sender: 2, view: View(5), high_vote: Vote::NONE, certificate: Certificate::GENESIS };
     for settings in FEW_COMMITS {
-        let mut deepest = [0; 4];
+        let mut deepest = Depths::default();
         for (blocks, step) in [
             (128, record(|out| wire::write_timeout(out, &timeout))),
             (128, step(AnyCall::Call(Call::Timer(5)))),
@@ -251,9 +283,7 @@ fn stack_of_the_longest_search() {
         ] {
             deepest = higher(deepest, depth_of_release(many_lacking_names(settings, blocks), step, blocks));
         }
-        let [_, record, timer, propose] = deepest;
-        println!("many decided names, {settings:?}: {record} bytes of stack in record, {timer} in timer, {propose} in propose");
-        assert!([record, timer, propose].iter().all(|&depth| depth > 0 && depth <= BOUND));
+        within_bound(&format!("many decided names, {settings:?}"), deepest);
     }
 }
 
@@ -270,9 +300,7 @@ fn stack_of_a_long_search_from_an_opening() {
             assert_eq!(oracle.step(&commit(sender, view, lacking(sender as u8 + 1))), Ok(0));
         }
     }
-    let [_, record, ..] = depth_of_release(oracle.rooms, commit(31, 8, name(128)), 128);
-    println!("many decided names from an opening: {record} bytes of stack in record");
-    assert!(record > 0 && record <= BOUND);
+    within_bound("many decided names from an opening", depth_of_release(oracle.rooms, commit(31, 8, name(128)), 128));
 }
 
 /// The most releases in one call: each block of the chain is decided by a commit of its own.
@@ -282,9 +310,7 @@ fn stack_of_many_releases() {
     let rooms = many_decided_names([0, 0, 31], &chain_and_one_apart(128), |view, replica| {
         [lacking(1), committed(view, replica)]
     });
-    let [_, _, timer, _] = depth_of_release(rooms, step(AnyCall::Call(Call::Timer(5))), 127);
-    println!("many releases: {timer} bytes of stack in timer");
-    assert!(timer > 0 && timer <= BOUND);
+    within_bound("many releases", depth_of_release(rooms, step(AnyCall::Call(Call::Timer(5))), 127));
 }
 
 /// The deepest of these calls.

@@ -15,6 +15,7 @@ fn make<'a>(replica: &'a mut Replica, call: &Call) -> Result<Accepted<'a>, Refus
         Call::Record(bytes) => replica.record(bytes),
         Call::Timer(view) => replica.timer(View(*view)),
         Call::Propose(name) => replica.propose(Name { bytes: *name }),
+        Call::RecordWith(..) | Call::ProposeWith(..) => unreachable!("these streams have no contents"),
     }
 }
 
