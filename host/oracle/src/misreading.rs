@@ -1,7 +1,7 @@
-//! Wrong readings of what 02, 2.5 says of contents, there to be noticed. Each stands in front of the right call: where it
-//! differs it refuses, or says with which contents the call goes on.
+//! Wrong readings of what 02, 2.5 says of contents, there to be noticed. Each judges contents by what the call answers without
+//! them; if it doesn't refuse, the call is made without them.
 
-use crate::judge::{Contents, Judged};
+use crate::judge::Judged;
 use crate::name::{block_name, CONTENTS};
 use crate::replica::Replica;
 use crate::types::{Block, Height, Name, Refusal};
@@ -21,6 +21,8 @@ pub enum Misreading {
     NameAfterRepeated,
     /// 17 comes after 14, in propose too.
     NameLast,
+    /// Of name and digest the last byte isn't compared.
+    LastByteLeftOut,
     /// Beside a kind without a block contents are never right.
     BesideAnyKind,
     /// A proposal is checked with its safe block and that one's height plus 1.
@@ -39,69 +41,87 @@ pub(crate) enum Beside<'a> {
 }
 
 impl Misreading {
-    pub const ALL: [Misreading; 10] = [
+    pub const ALL: [Misreading; 11] = [
         Misreading::OneByteMore,
         Misreading::EmptyIsAbsent,
         Misreading::LengthLater,
         Misreading::NameEarlier,
         Misreading::NameAfterRepeated,
         Misreading::NameLast,
+        Misreading::LastByteLeftOut,
         Misreading::BesideAnyKind,
         Misreading::ProposalOnSafeBlock,
         Misreading::ProposeOnTip,
         Misreading::ProposeAtSafeHeight,
     ];
 
-    /// The contents with which the call goes on, or how it is refused.
-    pub(crate) fn read<'a>(
-        self,
-        replica: &Replica,
-        beside: Beside<'_>,
-        contents: &'a [u8],
-    ) -> Result<Contents<'a>, Refusal> {
+    /// 16 or 17 as this reading gives them, or the refusal that stands before.
+    pub(crate) fn judge(self, replica: &Replica, beside: Beside<'_>, contents: &[u8]) -> Judged {
         let plain = beside.judge_plain(replica);
-        if plain == Err(Refusal::Regions) {
-            return plain.map(|()| None);
-        }
-        let too_long = contents.len() > CONTENTS;
-        match (self, plain) {
-            (Misreading::OneByteMore, _) if contents.len() == CONTENTS + 1 => Ok(Some(&contents[..CONTENTS])),
-            (Misreading::EmptyIsAbsent, _) if contents.is_empty() => Ok(None),
-            (Misreading::LengthLater, Err(refusal @ (Refusal::Length | Refusal::Turn))) => Err(refusal),
-            _ if too_long => Ok(Some(contents)),
-            (Misreading::NameAfterRepeated, Err(Refusal::Repeated)) => Err(Refusal::Repeated),
-            (Misreading::NameLast, Err(refusal)) => Err(refusal),
-            (Misreading::NameEarlier, Err(refusal)) if beside.is_judged_later(refusal) => {
-                let block = beside.block(replica);
-                block.filter(|block| !is_name(block, contents)).map_or(Err(refusal), |_| Err(Refusal::NameWrong))
-            }
-            (Misreading::BesideAnyKind, Ok(())) if beside.block(replica).is_none() => Err(Refusal::NameWrong),
-            _ => match self.other_block(replica, beside) {
-                Some(block) if is_name(&block, contents) => Ok(None),
-                Some(_) => {
-                    Err(plain.err().filter(|refusal| beside.comes_first(*refusal)).unwrap_or(Refusal::NameWrong))
-                }
-                None => Ok(Some(contents)),
-            },
+        match plain {
+            Err(refusal) if self.stands_before_length(refusal) => Err(refusal),
+            _ if contents.len() > self.longest() => Err(Refusal::ContentsTooLong),
+            Err(refusal) if self.stands_before_name(beside, refusal) => Err(refusal),
+            _ if !self.fits(replica, beside, contents) => Err(Refusal::NameWrong),
+            _ => plain,
         }
     }
 
-    /// The block over which it judges in place of 02's.
-    fn other_block(self, replica: &Replica, beside: Beside<'_>) -> Option<Block> {
-        let block = beside.block(replica)?;
+    fn longest(self) -> usize {
+        CONTENTS + usize::from(self == Misreading::OneByteMore)
+    }
+
+    fn stands_before_length(self, refusal: Refusal) -> bool {
+        refusal == Refusal::Regions
+            || self == Misreading::LengthLater && matches!(refusal, Refusal::Length | Refusal::Turn)
+    }
+
+    fn stands_before_name(self, beside: Beside<'_>, refusal: Refusal) -> bool {
+        match (self, beside) {
+            (Misreading::NameEarlier, Beside::Record(_)) => refusal < Refusal::Party,
+            (Misreading::NameEarlier, Beside::Propose(_)) => matches!(refusal, Refusal::Turn | Refusal::Content),
+            (Misreading::NameAfterRepeated, Beside::Record(_)) => refusal <= Refusal::Repeated,
+            (Misreading::NameLast, _) => true,
+            (_, Beside::Record(_)) => refusal < Refusal::Repeated,
+            (_, Beside::Propose(_)) => refusal != Refusal::StoreFull,
+        }
+    }
+
+    /// Whether the contents are taken for the block's, if there is one.
+    fn fits(self, replica: &Replica, beside: Beside<'_>, contents: &[u8]) -> bool {
+        let Some(block) = beside.block(replica) else { return self != Misreading::BesideAnyKind };
+        let Block { name, parent, height } = self.checked(replica, beside, block);
+        let contents = &contents[..contents.len().min(CONTENTS)];
+        let digest = block_name(parent, height, contents).expect("at most 4,096 bytes");
+        match self {
+            Misreading::EmptyIsAbsent if contents.is_empty() => true,
+            Misreading::LastByteLeftOut => digest[..31] == name[..31],
+            _ => digest == name,
+        }
+    }
+
+    /// The block with the parent and height that are digested.
+    fn checked(self, replica: &Replica, beside: Beside<'_>, block: Block) -> Block {
         let child_of =
-            |parent: Block| Some(Block { name: block.name, parent: parent.name, height: parent.height.child()? });
+            |parent: Block| Block { parent: parent.name, height: Height(parent.height.0.wrapping_add(1)), ..block };
         match (self, beside) {
             (Misreading::ProposalOnSafeBlock, Beside::Record(bytes)) => {
-                let Ok(Record::Proposal(proposal)) = wire::read(bytes, replica.settings().n()) else { return None };
-                child_of(replica.held(&replica.safe_of(&proposal.progress).name)?)
+                safe_block(replica, bytes).map_or(block, child_of)
             }
             (Misreading::ProposeOnTip, Beside::Propose(_)) => child_of(replica.counters.tip),
             (Misreading::ProposeAtSafeHeight, Beside::Propose(_)) => {
-                Some(Block { height: Height(block.height.0 - 1), ..block })
+                Block { height: Height(block.height.0 - 1), ..block }
             }
-            _ => None,
+            _ => block,
         }
+    }
+}
+
+/// The held safe block of a proposal.
+fn safe_block(replica: &Replica, bytes: &[u8]) -> Option<Block> {
+    match wire::read(bytes, replica.settings().n()) {
+        Ok(Record::Proposal(proposal)) => replica.held(&replica.safe_of(&proposal.progress).name),
+        _ => None,
     }
 }
 
@@ -118,32 +138,8 @@ impl Beside<'_> {
     /// The block that 02 checks.
     fn block(self, replica: &Replica) -> Option<Block> {
         match self {
-            Beside::Record(bytes) => match wire::read(bytes, replica.settings().n()) {
-                Ok(Record::Proposal(proposal)) => Some(proposal.block),
-                Ok(Record::Block { block, .. }) => Some(block),
-                _ => None,
-            },
+            Beside::Record(bytes) => wire::block_of(bytes),
             Beside::Propose(name) => replica.proposed(name),
         }
     }
-
-    /// Whether a refusal stands before 17.
-    fn comes_first(self, refusal: Refusal) -> bool {
-        match self {
-            Beside::Record(_) => refusal < Refusal::Repeated,
-            Beside::Propose(_) => refusal != Refusal::StoreFull,
-        }
-    }
-
-    /// Whether it does and yet stands after an earlier 17.
-    fn is_judged_later(self, refusal: Refusal) -> bool {
-        match self {
-            Beside::Record(_) => refusal >= Refusal::Party && self.comes_first(refusal),
-            Beside::Propose(_) => refusal == Refusal::Conflicting,
-        }
-    }
-}
-
-fn is_name(block: &Block, contents: &[u8]) -> bool {
-    block_name(block.parent, block.height, contents) == Ok(block.name)
 }

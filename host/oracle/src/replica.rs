@@ -149,11 +149,11 @@ impl Replica {
         Ok(out.len() - start)
     }
 
-    /// The contents that are judged: those that came, unless they are misread.
+    /// The contents that the call goes on with: none where a misreading has judged them.
     fn read_contents<'a>(&self, beside: Beside<'_>, contents: &'a [u8]) -> Result<Contents<'a>, Refusal> {
         match self.protocol.faults.misreading {
             None => Ok(Some(contents)),
-            Some(misreading) => misreading.read(self, beside, contents),
+            Some(misreading) => misreading.judge(self, beside, contents).map(|()| None),
         }
     }
 

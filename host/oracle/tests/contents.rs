@@ -84,12 +84,20 @@ fn any_other_triple_is_refused() {
         assert_eq!(record_answer(&six(1), &first_proposal(&block), contents), 17);
         assert_eq!(propose_answer(&six(0), block.name, contents), 17);
     }
-    for other in [named(name(1), 1, SHORT), named(GENESIS, 0, SHORT), named(GENESIS, 2, SHORT)] {
-        let renamed = Block { name: other.name, ..block };
+    let others = [named(name(1), 1, SHORT), named(GENESIS, 0, SHORT), named(GENESIS, 2, SHORT)];
+    let nearly = (0..32).flat_map(|byte| [0, 7].map(|bit| flipped(block.name, byte, bit)));
+    for name in others.map(|other| other.name).into_iter().chain(nearly) {
+        let renamed = Block { name, ..block };
         assert_eq!(block_answer(&six(1), &renamed, SHORT), 17);
         assert_eq!(record_answer(&six(1), &first_proposal(&renamed), SHORT), 17);
-        assert_eq!(propose_answer(&six(0), other.name, SHORT), 17);
+        assert_eq!(propose_answer(&six(0), name, SHORT), 17);
     }
+}
+
+/// The name with one bit changed.
+fn flipped(mut name: Name, byte: usize, bit: u32) -> Name {
+    name[byte] ^= 1 << bit;
+    name
 }
 
 /// 17 is judged over the record's own parent and height, whatever they are.
@@ -254,6 +262,8 @@ fn misreadings() {
     while full.memory.store.push(block(99, name(1), 2)) {}
     let on_leader = named(name(1), 2, SHORT).name;
     let by_nobody = block_record(6, &right);
+    let mut nearly = right;
+    nearly.name[31] ^= 1;
     let elsewhere = first_proposal(&named(name(9), 4, SHORT));
 
     let first = block_record(3, &block(1, GENESIS, 1));
@@ -267,6 +277,7 @@ fn misreadings() {
     assert_eq!(misread(NameAfterRepeated, record(block_record(3, &right), b"other"), holder), [10, 17]);
     assert_eq!(misread(NameLast, record(block_record(3, &block(1, name(9), 1)), b"other"), six(1)), [12, 17]);
     assert_eq!(misread(NameLast, propose(on_leader, b"other"), full), [14, 17]);
+    assert_eq!(misread(LastByteLeftOut, record(block_record(3, &nearly), SHORT), six(1)), [0, 17]);
     assert_eq!(misread(BesideAnyKind, record(vote_record(2, 1, name(1)), SHORT), six(1)), [17, 0]);
     assert_eq!(misread(ProposalOnSafeBlock, record(elsewhere, SHORT), six(1)), [17, 13]);
     assert_eq!(misread(ProposeOnTip, propose(on_leader, SHORT), leader()), [17, 0]);

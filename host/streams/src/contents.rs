@@ -12,7 +12,7 @@ use crate::random::Random;
 #[derive(Clone, Debug)]
 pub struct Contents {
     random: Random,
-    /// What each of these names is the digest of.
+    /// What each of these names was made from.
     named: HashMap<Name, NameCall>,
     /// How many in a hundred new blocks are named by their contents.
     share: u64,
@@ -99,13 +99,25 @@ impl Contents {
         }
     }
 
-    /// A name for this parent and height, at times for another of them.
+    /// A name for this parent and height, at times for another of them, or with a bit changed.
     fn name_near(&mut self, parent: Name, height: Height) -> Name {
         match self.random.below(25) {
             0 => self.name(GENESIS, height),
             1 => self.name(parent, Height(height.0.wrapping_add(1))),
+            2 => {
+                let name = self.name(parent, height);
+                self.nearly(name)
+            }
             _ => self.name(parent, height),
         }
+    }
+
+    /// One bit of a name is changed, and its contents go with it.
+    fn nearly(&mut self, mut name: Name) -> Name {
+        let made = self.named.remove(&name).expect("a name made from contents");
+        name[self.random.index(32)] ^= 1 << self.random.below(8);
+        self.named.insert(name, made);
+        name
     }
 
     /// A name made from new contents.
