@@ -203,7 +203,8 @@ impl Replica {
             && counters.view != View::MAX
     }
 
-    /// The block that propose makes of a name: on the safe block of the entry certificate, if that is held and below 2^62.
+    /// The block that propose makes of a name: on the safe block of the entry certificate, if that is held and below 2^62. On a
+    /// state that `is_sound`.
     pub fn proposed(&self, name: Name) -> Option<Block> {
         let parent = self.held(&self.safe_of(&wire::read_progress(self.memory.entry.record())).name)?;
         Some(Block { name, parent: parent.name, height: parent.height.child()? })

@@ -164,28 +164,11 @@ impl Contents {
 
     /// Of any length that is taken; those at which the digest's padding changes come often, and so do the longest.
     fn contents(&mut self) -> Vec<u8> {
-        let small = self.random.index(40);
-        let middle = self.random.index(400);
-        let any = self.random.index(CONTENTS + 1);
-        let length = self.random.pick(&[
-            0,
-            0,
-            15,
-            16,
-            23,
-            24,
-            79,
-            80,
-            small,
-            small,
-            small,
-            small,
-            middle,
-            middle,
-            any,
-            CONTENTS - 1,
-            CONTENTS,
-        ]);
+        let near_padding = self.random.pick(&[15, 16, 23, 24, 79, 80]);
+        let [small, middle, any] = [40, 400, CONTENTS + 1].map(|end| self.random.index(end));
+        let longest = self.random.pick(&[CONTENTS - 1, CONTENTS]);
+        let lengths = [(2, 0), (6, near_padding), (4, small), (2, middle), (1, any), (2, longest)];
+        let length = self.random.weighted(&lengths);
         self.random.bytes(length)
     }
 

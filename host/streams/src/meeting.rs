@@ -18,14 +18,14 @@ pub struct Meeting {
 impl Meeting {
     /// None for a call without a block or contents, and where 2 or 16 comes first.
     pub fn of(replica: &Replica, call: &Call) -> Option<Meeting> {
-        let contents = call.contents().filter(|contents| contents.len() <= CONTENTS)?;
+        let contents = call.contents().filter(|contents| contents.len() <= CONTENTS && replica.is_sound())?;
         let block = match call {
             Call::ProposeWith(name, _) => replica.proposed(*name),
             _ => Some(wire::block_of(call.record()?)?),
         };
         let plain = answer(call.without_contents().make(&mut replica.clone(), &mut Vec::new()));
         let right = block.is_some_and(|block| is_named(&block, contents));
-        (plain != 2).then_some(Meeting { kind: Kind::of(call), right, plain })
+        Some(Meeting { kind: Kind::of(call), right, plain })
     }
 
     /// 02: 17 "right before 10 (propose: before 14)".
