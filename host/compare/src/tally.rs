@@ -2,7 +2,7 @@
 
 use std::fmt;
 
-use oracle::{answer, Counters, Leaders, Refusal, Reply, Settings};
+use oracle::{answer, Counters, Leaders, Refusal, Reply, Settings, CONTENTS};
 use streams::{reachable, Coverage, Kind, Meeting, Path, Row};
 
 use crate::expected::Expected;
@@ -12,6 +12,8 @@ use crate::step::{AnyCall, Step};
 #[derive(Clone, Debug, Default)]
 pub struct Tally {
     pub calls: Coverage,
+    /// Calls refused by 2 although their contents were too long as well.
+    pub regions_before_length: u64,
     pub openings: [u64; 3],
     /// Openings refused for their numbers: n over 32, own number from n on, n that is 3f+2c+k+1 only in 64 bits, another n.
     pub numbers: [u64; 4],
@@ -42,7 +44,11 @@ impl Tally {
                 self.calls.count(call, reply, &before, replica, output);
                 self.calls.meet(meeting);
             }
-            _ => self.calls.count_refused(call, Refusal::Regions),
+            _ => {
+                self.calls.count_refused(call, Refusal::Regions);
+                let too_long = call.contents().is_some_and(|contents| contents.len() > CONTENTS);
+                self.regions_before_length += u64::from(too_long);
+            }
         }
     }
 
@@ -124,6 +130,7 @@ impl fmt::Display for Tally {
         let [too_many, own, wrapped, other] = self.numbers;
         let [empty, longer, outside] = self.lists;
         writeln!(f, "{}", self.calls)?;
+        writeln!(f, "contents too long where 2 comes first: {}", self.regions_before_length)?;
         writeln!(f, "openings: {accepted} accepted, {settings} refused by 1, {regions} by 2")?;
         writeln!(
             f,

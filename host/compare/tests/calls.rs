@@ -31,6 +31,7 @@ fn compare_half(kind: Kind) -> Tally {
     for path in WITH_EVERY_K {
         assert!(tally.calls.of_path(path) > 100, "{path:?}: {}", tally.calls.of_path(path));
     }
+    assert!(tally.regions_before_length > 100, "contents too long, and yet refused by 2");
     assert!(tally.openings.iter().all(|&times| times > 0), "openings accepted, refused by 1 and by 2");
     assert!(tally.numbers.iter().all(|&times| times > 0), "n over 32, own numbers, sums that wrap round, other n");
     assert!(tally.lists.iter().all(|&times| times > 0), "leader lists that are empty, too long, or have other numbers");
