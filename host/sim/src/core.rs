@@ -3,8 +3,6 @@
 use oracle::wire::{self, Progress};
 use replica::Contents;
 
-use crate::beside;
-
 /// One replica as a step machine: calls over bytes and numbers. To save is to clone, to restore is to put the clone
 /// back. A refused call changes nothing and writes nothing.
 pub trait Core: Clone {
@@ -53,13 +51,12 @@ impl Core for oracle::Replica {
         oracle::answer(oracle::Replica::propose(self, name, output))
     }
 
-    // The oracle's own calls with contents are to be joined here; `beside.rs` goes then.
     fn record_with(&mut self, bytes: &[u8], contents: &[u8], output: &mut Vec<u8>) -> u16 {
-        beside::record_with(self, bytes, contents, output)
+        oracle::answer(oracle::Replica::record_with(self, bytes, contents, output))
     }
 
     fn propose_with(&mut self, name: [u8; 32], contents: &[u8], output: &mut Vec<u8>) -> u16 {
-        beside::propose_with(self, name, next_block(self), contents, output)
+        oracle::answer(oracle::Replica::propose_with(self, name, contents, output))
     }
 
     /// It knows the safe block; the library's crate tries those that may be it.

@@ -3,7 +3,6 @@
 //! checked: the honest replicas' releases are one chain.
 
 mod adversary;
-mod beside;
 mod chain;
 mod cluster;
 mod core;
