@@ -7,8 +7,8 @@
     'callees': {
         'replay::input::request': {'ens': 'r ≡ requestAt {2} {0} {1} {3}'},
         'replay::timer_call': {'ens': 'afterAnswer r (lentTo {w0} {w1} {w2}) {w3} ≡ cond {4} (answered (lentTo {0} {1} {2}) {3} (calls (timer ({5} .0)))) (afterAnswer {6} (lentTo {0} {1} {2}) {3})'},
-        'replay::propose_call': {'ens': 'afterAnswer r (lentTo {w0} {w1} {w2}) {w3} ≡ cond {4} (answered (lentTo {0} {1} {2}) {3} (calls (propose ({5} .bytes)))) (afterAnswer {6} (lentTo {0} {1} {2}) {3})'},
-        'replay::record_call': {'ens': 'afterAnswer r (lentTo {w0} {w1} {w2}) {w3} ≡ cond {5} (answered (lentTo {0} {1} {2}) {3} (calls (receive (part {4} {6} {7})))) (afterAnswer {8} (lentTo {0} {1} {2}) {3})'},
+        'replay::propose_call': {'ens': 'afterAnswer r (lentTo {w0} {w1} {w2}) {w3} ≡ cond {4} (answered (lentTo {0} {1} {2}) {3} (calls (propose ({5} .bytes) none))) (afterAnswer {6} (lentTo {0} {1} {2}) {3})'},
+        'replay::record_call': {'ens': 'afterAnswer r (lentTo {w0} {w1} {w2}) {w3} ≡ cond {5} (answered (lentTo {0} {1} {2}) {3} (calls (receive (part {4} {6} {7}) none))) (afterAnswer {8} (lentTo {0} {1} {2}) {3})'},
         'replay::report_call': {'req': 'yes', 'ens': '({w0} ≡ {0}) × ((r ≡ cond {2} (behind {5} {3} {4}) {5}) × ({w1} ≡ cond {2} (withLine {1} {5} {4} {0}) {1}))'},
     },
     'asks': ['(room-there gone inp ls p r0 (inp-room .0) e0)'],
@@ -16,6 +16,7 @@
     'spec': {
         'mathlib.Core.Bool': ['cond'],
         'Rattle.codec.specs.Bytes': ['part'],
+        'Rattle.protocol.specs.Contents': ['none'],
         'Rattle.protocol.specs.OneCall': ['receive', 'timer', 'propose'],
         'Rattle.replica.specs.Reply': ['lentTo'],
         'Rattle.replay.specs.Input': ['calls'],

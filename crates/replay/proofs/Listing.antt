@@ -3,7 +3,7 @@
 -- is (`bad-opening-prints`). Assumes nothing.
 use Prim.Native.Nat.{ℕ, _≤_}
 use native.Mathlib.Omega.{arith}
-use mathlib.Core.Path.{_≡_, refl, ap}
+use mathlib.Core.Path.{_≡_, refl, ap, _∙_}
 use mathlib.Core.Bool.{Bool, true, false, cond}
 use mathlib.Core.List.{List, [], _∷_, _++_}
 use borrow.Author.Tests.{ne-eqb}
@@ -19,9 +19,10 @@ use Rattle.memory.specs.Leaders.{byList}
 use Rattle.protocol.specs.Typed.{BlockTyped}
 use Rattle.protocol.specs.Refusals.{storeLength, outputLength}
 use Rattle.protocol.specs.Calls.{Replica, Outcome, timerCall, openingCall, openingCore, openingRefusals}
+use Rattle.protocol.specs.Contents.{none}
 use Rattle.protocol.specs.OneCall.{Call, timer, propose, CallTyped, callOn, left}
-use Rattle.protocol.specs.Example.{blockName}
-use Rattle.protocol.specs.Listing.{Line, number, lineAfter, linesOf, printed}
+use Rattle.protocol.specs.Listing.{listedName, Line, number, lineAfter, linesOf, printed}
+use Rattle.protocol.proofs.call.Contents.{propose-as-before}
 use Rattle.protocol.proofs.call.OneCall.{RegularReplica, reply-refuses, call-accepted, call-refused, call-keeps, opening-accepted, opening-refused}
 use Rattle.protocol.proofs.example.Listing.{listing}
 use Rattle.replay.specs.declared.Opening.{Opening}
@@ -32,15 +33,15 @@ use Rattle.replay.specs.Listing.{openingBytes, timerBytes, proposeBytes,
 
 -- ---- the bytes: the first record's numbers, the records after it, and what they ask
 pub listing-opens : openingOf (take openingLength listingInput) ≡ record { well = true; f = 1; c = 1; k = 0; n = 6; own = 1 }
-unfolding listingInput openingBytes timerBytes proposeBytes headerBytes leBytes blockName openingOf wellFormed part leNat
+unfolding listingInput openingBytes timerBytes proposeBytes headerBytes leBytes listedName openingOf wellFormed part leNat
 listing-opens = refl
 
-pub listing-pieces : pieces (drop openingLength listingInput) ≡ whole (timerBytes 2) ∷ whole (timerBytes 1) ∷ whole (timerBytes 1) ∷ whole (proposeBytes blockName) ∷ []
-unfolding listingInput openingBytes timerBytes proposeBytes headerBytes leBytes blockName cut front used beginsWhole part leNat
+pub listing-pieces : pieces (drop openingLength listingInput) ≡ whole (timerBytes 2) ∷ whole (timerBytes 1) ∷ whole (timerBytes 1) ∷ whole (proposeBytes listedName) ∷ []
+unfolding listingInput openingBytes timerBytes proposeBytes headerBytes leBytes listedName cut front used beginsWhole part leNat
 listing-pieces = refl
 
-pub listing-asks : (asks (whole (timerBytes 2)) ≡ calls (timer 2)) × (asks (whole (timerBytes 1)) ≡ calls (timer 1)) × (asks (whole (proposeBytes blockName)) ≡ calls (propose blockName))
-unfolding timerBytes proposeBytes headerBytes leBytes blockName asksRecord part leNat
+pub listing-asks : (asks (whole (timerBytes 2)) ≡ calls (timer 2)) × (asks (whole (timerBytes 1)) ≡ calls (timer 1)) × (asks (whole (proposeBytes listedName)) ≡ calls (propose listedName none))
+unfolding timerBytes proposeBytes headerBytes leBytes listedName asksRecord part leNat
 listing-asks = (refl, refl, refl)
 
 -- ---- the calls
@@ -111,13 +112,15 @@ module _ (lent : Replica) (o : List ℕ) (b : IsBytes (lent .memory)) (typed : A
       let l₁ = lineAfter 1 first in
       let l₂ = lineAfter 2 second in
       let l₃ = lineAfter 3 third in
+      let plain = propose-as-before byList (left third) (third .output) listedName in
       rw (
         opened-is,
         listing-pieces,
         one r₀ o [] 1 2 (whole (timerBytes 2)) (timer 2) refl two (ap (nextCall 1) (answer-is 0)),
         one (left first) (first .output) (l₁ ∷ []) 2 3 (whole (timerBytes 1)) (timer 1) refl again (ap (nextCall 2) (answer-is 1)),
         one (left second) (second .output) (l₁ ∷ l₂ ∷ []) 3 4 (whole (timerBytes 1)) (timer 1) refl again (ap (nextCall 3) (answer-is 2)),
-        one (left third) (third .output) (l₁ ∷ l₂ ∷ l₃ ∷ []) 4 5 (whole (proposeBytes blockName)) (propose blockName) refl name (ap (nextCall 4) (answer-is 3)),
+        one (left third) (third .output) (l₁ ∷ l₂ ∷ l₃ ∷ []) 4 5 (whole (proposeBytes listedName)) (propose listedName none) refl name (ap (λ (x : Outcome). nextCall 4 (number (x .reply))) plain ∙ ap (nextCall 4) (answer-is 3)),
+        plain,
       )
       lines-are
 

@@ -14,6 +14,7 @@ use Rattle.blocks.specs.declared.Block.{Block}
 use Rattle.counters.specs.declared.Counters.{Counters}
 use Rattle.memory.specs.Leaders.{byList}
 use Rattle.protocol.specs.Calls.{Replica, Outcome, openingCall}
+use Rattle.protocol.specs.Contents.{none}
 use Rattle.protocol.specs.OneCall.{Call, receive, timer, propose, callOn, left}
 use Rattle.protocol.specs.Listing.{number}
 use Rattle.replica.specs.declared.Reply.{Reply}
@@ -66,16 +67,16 @@ uncalled p o x go ans n = rw n
 -- ---- one piece
 takes-of : (k : ℕ) (a : Asked) → requestOf k a .takes ≡ true
 unfolding requestOf
-takes-of k (calls (receive b)) = refl
+takes-of k (calls (receive b c)) = refl
 takes-of k (calls (timer v)) = refl
-takes-of k (calls (propose x)) = refl
+takes-of k (calls (propose x c)) = refl
 takes-of k (answers a) = refl
 
 used-of : (k : ℕ) (a : Asked) → requestOf k a .used ≡ k
 unfolding requestOf
-used-of k (calls (receive b)) = refl
+used-of k (calls (receive b c)) = refl
 used-of k (calls (timer v)) = refl
-used-of k (calls (propose x)) = refl
+used-of k (calls (propose x c)) = refl
 used-of k (answers a) = refl
 
 -- a piece that is taken has a line's room and lies within the input
@@ -95,20 +96,22 @@ room-there ended input lines p r short e y = go (goes ended input (length lines)
         (h .fits, omega (arith, u, used-within rest, length-drop (p .at) input, some, short))
     go false g f = absurd (true≢false (sym y ∙ ap (λ (q : Request). q .takes) f))
 
--- the bytes that are handed to the replica, where a record is
-unfoldable received : List ℕ → Asked → List ℕ
-received d (calls (receive b)) = b
-received d (calls (timer v)) = d
-received d (calls (propose x)) = d
-received d (answers a) = d
+-- what the code hands to the replica: where a record is asked, these bytes; and never contents
+unfoldable handedOn : List ℕ → Asked → Asked
+handedOn d (calls (receive b c)) = calls (receive d none)
+handedOn d (calls (timer v)) = calls (timer v)
+handedOn d (calls (propose x c)) = calls (propose x none)
+handedOn d (answers a) = answers a
 
--- they are the record's own
-asked-itself : (r : List ℕ) → received r (asksRecord r) ≡ r
-unfolding asksRecord received
+-- that is what the record asks
+asked-itself : (r : List ℕ) → handedOn r (asksRecord r) ≡ asksRecord r
+unfolding asksRecord handedOn
 asked-itself r = go (eqb (kindOf r) timerKind) (eqb (kindOf r) proposeKind) (eqb (length r) timerLength) (eqb (length r) proposeLength) (eqb (senderOf r) 0)
   where
-    go : (k₁ k₂ l₁ l₂ z : Bool)
-        → received r (cond k₁ (cond l₁ (cond z (calls (timer (viewOf r))) (answers 6)) (answers 3)) (cond k₂ (cond l₂ (cond z (calls (propose (part r 8 nameLength))) (answers 6)) (answers 3)) (calls (receive r)))) ≡ r
+    asked : (k₁ k₂ l₁ l₂ z : Bool) → Asked
+    asked k₁ k₂ l₁ l₂ z = cond k₁ (cond l₁ (cond z (calls (timer (viewOf r))) (answers 6)) (answers 3)) (cond k₂ (cond l₂ (cond z (calls (propose (part r 8 nameLength) none)) (answers 6)) (answers 3)) (calls (receive r none)))
+
+    go : (k₁ k₂ l₁ l₂ z : Bool) → handedOn r (asked k₁ k₂ l₁ l₂ z) ≡ asked k₁ k₂ l₁ l₂ z
     go true k₂ true l₂ true = refl
     go true k₂ true l₂ false = refl
     go true k₂ false l₂ z = refl
@@ -117,23 +120,23 @@ asked-itself r = go (eqb (kindOf r) timerKind) (eqb (kindOf r) proposeKind) (eqb
     go false true l₁ false z = refl
     go false false l₁ l₂ z = refl
 
--- and stand in the input from the place on
-record-part : (input : List ℕ) (at : ℕ) → received (part input at (used (drop at input))) (asks (front (drop at input))) ≡ part input at (used (drop at input))
-unfolding front used part received
+-- and these bytes stand in the input from the place on
+record-part : (input : List ℕ) (at : ℕ) → handedOn (part input at (used (drop at input))) (asks (front (drop at input))) ≡ asks (front (drop at input))
+unfolding front used part handedOn
 record-part input at = go (beginsWhole (drop at input))
   where
     rest : List ℕ
     rest = drop at input
 
-    go : (t : Bool) → received (take (cond t (lengthOf rest) (length rest)) rest) (asks (cond t (whole (take (lengthOf rest) rest)) broken)) ≡ take (cond t (lengthOf rest) (length rest)) rest
+    go : (t : Bool) → handedOn (take (cond t (lengthOf rest) (length rest)) rest) (asks (cond t (whole (take (lengthOf rest) rest)) broken)) ≡ asks (cond t (whole (take (lengthOf rest) rest)) broken)
     go true = asked-itself (take (lengthOf rest) rest)
     go false = refl
 
 -- the three calls in a row: the piece asks at most one of them
 module _ (p q₁ q₂ q₃ : Replica) (o o₁ o₂ o₃ d : List ℕ) (r₁ r₂ r₃ : ℕ) (q : Request)
     (first : afterAnswer r₁ q₁ o₁ ≡ cond (q .timer) (answered p o (calls (timer (q .view .0)))) (afterAnswer (q .answer) p o))
-    (second : afterAnswer r₂ q₂ o₂ ≡ cond (q .propose) (answered q₁ o₁ (calls (propose (q .name .bytes)))) (afterAnswer r₁ q₁ o₁))
-    (third : afterAnswer r₃ q₃ o₃ ≡ cond (q .receive) (answered q₂ o₂ (calls (receive d))) (afterAnswer r₂ q₂ o₂)) where
+    (second : afterAnswer r₂ q₂ o₂ ≡ cond (q .propose) (answered q₁ o₁ (calls (propose (q .name .bytes) none))) (afterAnswer r₁ q₁ o₁))
+    (third : afterAnswer r₃ q₃ o₃ ≡ cond (q .receive) (answered q₂ o₂ (calls (receive d none))) (afterAnswer r₂ q₂ o₂)) where
   not-first : q .timer ≡ false → afterAnswer r₁ q₁ o₁ ≡ afterAnswer (q .answer) p o
   not-first t = first ∙ rw t
 
@@ -145,21 +148,21 @@ module _ (p q₁ q₂ q₃ : Replica) (o o₁ o₂ o₃ d : List ℕ) (r₁ r₂
   all-unmade t x b = (third ∙ rw b) ∙ not-second t x
 
   -- the one that is asked
-  one-made : (k : ℕ) (a : Asked) → q ≡ requestOf k a → received d a ≡ d → afterAnswer r₃ q₃ o₃ ≡ answered p o a
-  unfolding requestOf received answered
-  one-made k (calls (receive b)) e h =
+  one-made : (k : ℕ) (a : Asked) → q ≡ requestOf k a → handedOn d a ≡ a → afterAnswer r₃ q₃ o₃ ≡ answered p o a
+  unfolding requestOf handedOn answered
+  one-made k (calls (receive b c)) e h =
       (third ∙ rw (ap (λ (z : Request). z .receive) e))
-      ∙ (ap (λ (z : Answered). answered (z .replica) (z .output) (calls (receive d))) (not-second (ap (λ (z : Request). z .timer) e) (ap (λ (z : Request). z .propose) e))
-      ∙ ap (λ (z : List ℕ). answered p o (calls (receive z))) (sym h))
+      ∙ (ap (λ (z : Answered). answered (z .replica) (z .output) (calls (receive d none))) (not-second (ap (λ (z : Request). z .timer) e) (ap (λ (z : Request). z .propose) e))
+      ∙ ap (answered p o) h)
   one-made k (calls (timer v)) e h =
       (third ∙ rw (ap (λ (z : Request). z .receive) e))
       ∙ ((second ∙ rw (ap (λ (z : Request). z .propose) e))
       ∙ ((first ∙ rw (ap (λ (z : Request). z .timer) e)) ∙ ap (λ (z : Request). answered p o (calls (timer (z .view .0)))) e))
-  one-made k (calls (propose x)) e h =
+  one-made k (calls (propose x c)) e h =
       (third ∙ rw (ap (λ (z : Request). z .receive) e))
       ∙ ((second ∙ rw (ap (λ (z : Request). z .propose) e))
-      ∙ (ap (λ (z : Answered). answered (z .replica) (z .output) (calls (propose (q .name .bytes)))) (not-first (ap (λ (z : Request). z .timer) e))
-      ∙ ap (λ (z : Request). answered p o (calls (propose (z .name .bytes)))) e))
+      ∙ (ap (λ (z : Answered). answered (z .replica) (z .output) (calls (propose (q .name .bytes) none))) (not-first (ap (λ (z : Request). z .timer) e))
+      ∙ (ap (λ (z : Request). answered p o (calls (propose (z .name .bytes) none))) e ∙ ap (answered p o) h)))
   one-made k (answers a) e h =
       all-unmade (ap (λ (z : Request). z .timer) e) (ap (λ (z : Request). z .propose) e) (ap (λ (z : Request). z .receive) e) ∙ ap (λ (z : Request). afterAnswer (z .answer) p o) e
 
@@ -168,8 +171,8 @@ pub piece-taken : {c₁ c₂ c₃ c₄ : Counters} {m₁ m₂ m₃ : List ℕ} {
     (ended : Bool) (input lines : List ℕ) (at : Place) (p : Replica) (o : List ℕ) (q : Request)
     → q ≡ requestAt ended input (length lines) at
     → afterAnswer r₁ (lentTo c₁ m₁ s₁) o₁ ≡ cond (q .timer) (answered p o (calls (timer (q .view .0)))) (afterAnswer (q .answer) p o)
-    → afterAnswer r₂ (lentTo c₂ m₂ s₂) o₂ ≡ cond (q .propose) (answered (lentTo c₁ m₁ s₁) o₁ (calls (propose (q .name .bytes)))) (afterAnswer r₁ (lentTo c₁ m₁ s₁) o₁)
-    → afterAnswer r₃ (lentTo c₃ m₃ s₃) o₃ ≡ cond (q .receive) (answered (lentTo c₂ m₂ s₂) o₂ (calls (receive (part input (at .at) (q .used))))) (afterAnswer r₂ (lentTo c₂ m₂ s₂) o₂)
+    → afterAnswer r₂ (lentTo c₂ m₂ s₂) o₂ ≡ cond (q .propose) (answered (lentTo c₁ m₁ s₁) o₁ (calls (propose (q .name .bytes) none))) (afterAnswer r₁ (lentTo c₁ m₁ s₁) o₁)
+    → afterAnswer r₃ (lentTo c₃ m₃ s₃) o₃ ≡ cond (q .receive) (answered (lentTo c₂ m₂ s₂) o₂ (calls (receive (part input (at .at) (q .used)) none))) (afterAnswer r₂ (lentTo c₂ m₂ s₂) o₂)
     → (c₄ ≡ c₃) × ((place ≡ cond (q .takes) (behind at (q .used) r₃) at) × (lines₄ ≡ cond (q .takes) (withLine lines at r₃ c₃) lines))
     → standing (lentTo c₄ m₃ s₃) o₃ lines₄ place ≡ step ended input (standing p o lines at)
 unfolding step requestAt
@@ -186,8 +189,8 @@ piece-taken {c₁} {c₂} {c₃} {c₄} {m₁} {m₂} {m₃} {s₁} {s₂} {s₃
         ≡ cond t (let x = answered p o (asks (front (drop (at .at) input))) in standing (x .replica) (x .output) (withLine lines at (x .answer) (x .replica .counters)) (behind at (used (drop (at .at) input)) (x .answer))) (standing p o lines at)
     go true f =
         let k = ap (λ (z : Request). z .used) f ∙ used-of (used (drop (at .at) input)) (asks (front (drop (at .at) input))) in
-        let d : received (part input (at .at) (q .used)) (asks (front (drop (at .at) input))) ≡ part input (at .at) (q .used)
-        = subst (λ (n : ℕ). received (part input (at .at) n) (asks (front (drop (at .at) input))) ≡ part input (at .at) n) (sym k) (record-part input (at .at)) in
+        let d : handedOn (part input (at .at) (q .used)) (asks (front (drop (at .at) input))) ≡ asks (front (drop (at .at) input))
+        = subst (λ (n : ℕ). handedOn (part input (at .at) n) (asks (front (drop (at .at) input))) ≡ asks (front (drop (at .at) input))) (sym k) (record-part input (at .at)) in
         whole-step (answered p o (asks (front (drop (at .at) input)))) (one-made p (lentTo c₁ m₁ s₁) (lentTo c₂ m₂ s₂) (lentTo c₃ m₃ s₃) o o₁ o₂ o₃ (part input (at .at) (q .used)) r₁ r₂ r₃ q first second third (used (drop (at .at) input)) (asks (front (drop (at .at) input))) f d) (used (drop (at .at) input)) k
         (ap (λ (z : Request). z .takes) f ∙ takes-of (used (drop (at .at) input)) (asks (front (drop (at .at) input))))
     go false f =

@@ -9,6 +9,7 @@ use Rattle.settings.specs.Quorum.{largest}
 use Rattle.codec.specs.Bytes.{part}
 use Rattle.codec.specs.Names.{nameLength}
 use Rattle.wire.specs.Fields.{headerLength, timeoutLength, timeoutsHead, proposalHead, numberAt, lengthOf, kindOf, senderOf, viewOf}
+use Rattle.protocol.specs.Contents.{none}
 use Rattle.protocol.specs.OneCall.{Call, receive, timer, propose}
 use Rattle.replay.specs.declared.Opening.{Opening}
 
@@ -91,11 +92,11 @@ pub data Asked : Type 0 where
 abbrev pub asksHost : List ℕ → ℕ → Call → Asked
 asksHost r n c = cond (eqb (length r) n) (cond (eqb (senderOf r) 0) (calls c) (answers 6)) (answers 3)
 
--- any other kind is the replica's to judge
+-- any other kind is the replica's to judge. The input has no contents (02, 2.5: these come in a region of their own)
 unfoldable pub asksRecord : List ℕ → Asked
 asksRecord r =
     cond (eqb (kindOf r) timerKind) (asksHost r timerLength (timer (viewOf r)))
-    (cond (eqb (kindOf r) proposeKind) (asksHost r proposeLength (propose (part r 8 nameLength))) (calls (receive r)))
+    (cond (eqb (kindOf r) proposeKind) (asksHost r proposeLength (propose (part r 8 nameLength) none)) (calls (receive r none)))
 
 -- "a record ... cut short or over 3,696 bytes prints its line with answer 3"
 abbrev pub asks : Piece → Asked

@@ -4,7 +4,7 @@ use Prim.Native.Nat.{ℕ}
 use mathlib.Core.List.{List, _++_}
 use Rattle.codec.specs.Bytes.{leBytes}
 use Rattle.wire.specs.Encode.{headerBytes}
-use Rattle.protocol.specs.Example.{blockName}
+use Rattle.protocol.specs.Listing.{listedName}
 use Rattle.replay.specs.Input.{openingKind, openingLength, timerKind, timerLength, proposeKind, proposeLength}
 
 -- "kind 12 (u16 f, c, k, n, own, 6 zero bytes), then records, kind 10 (timer, view u64) and 11 (propose, name), sender 0 in these three"
@@ -18,4 +18,4 @@ unfoldable pub proposeBytes : List ℕ → List ℕ
 proposeBytes name = headerBytes proposeLength proposeKind 0 ++ name
 
 unfoldable pub listingInput : List ℕ
-listingInput = openingBytes 1 1 0 6 1 ++ timerBytes 2 ++ timerBytes 1 ++ timerBytes 1 ++ proposeBytes blockName
+listingInput = openingBytes 1 1 0 6 1 ++ timerBytes 2 ++ timerBytes 1 ++ timerBytes 1 ++ proposeBytes listedName

@@ -18,9 +18,9 @@ idle = record { takes = false; used = 0; answer = 0; timer = false; view = recor
 
 -- a piece of so many bytes
 unfoldable pub requestOf : ℕ → Asked → Request
-requestOf k (calls (receive b)) = record { takes = true; used = k; answer = 0; timer = false; view = record { 0 = 0 }; propose = false; name = record { bytes = zeroName }; receive = true }
+requestOf k (calls (receive b c)) = record { takes = true; used = k; answer = 0; timer = false; view = record { 0 = 0 }; propose = false; name = record { bytes = zeroName }; receive = true }
 requestOf k (calls (timer v)) = record { takes = true; used = k; answer = 0; timer = true; view = record { 0 = v }; propose = false; name = record { bytes = zeroName }; receive = false }
-requestOf k (calls (propose x)) = record { takes = true; used = k; answer = 0; timer = false; view = record { 0 = 0 }; propose = true; name = record { bytes = x }; receive = false }
+requestOf k (calls (propose x c)) = record { takes = true; used = k; answer = 0; timer = false; view = record { 0 = 0 }; propose = true; name = record { bytes = x }; receive = false }
 requestOf k (answers a) = record { takes = true; used = k; answer = a; timer = false; view = record { 0 = 0 }; propose = false; name = record { bytes = zeroName }; receive = false }
 
 -- the piece at the front of these bytes

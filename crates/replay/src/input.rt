@@ -18,6 +18,7 @@ ghost use lib.ListN.{length};
 ghost use Rattle.settings.specs.Quorum.{largest};
 ghost use Rattle.settings.specs.Opening.{inTurn};
 ghost use Rattle.codec.specs.Bytes.{part, patch};
+ghost use Rattle.protocol.specs.Contents.{none};
 ghost use Rattle.protocol.specs.OneCall.{timer, propose, receive};
 ghost use Rattle.replay.specs.Input.{wellFormed, openingOf, sized, beginsWhole, calls, answers, asksRecord};
 ghost use Rattle.replay.specs.Replay.{known, ready, goes};
@@ -191,7 +192,7 @@ fn timer(used: usize, view: View) -> Request
 }
 
 fn propose(used: usize, bytes: [u8; 32]) -> Request
-    ensures { λ r. ⌜ r ≡ requestOf used (calls (propose bytes)) ⌝ }
+    ensures { λ r. ⌜ r ≡ requestOf used (calls (propose bytes none)) ⌝ }
 {
     let name = Name { bytes };
     let mut r = no_call(used, 0);
@@ -201,7 +202,7 @@ fn propose(used: usize, bytes: [u8; 32]) -> Request
 }
 
 fn receive(rec: &[u8]) -> Request
-    ensures { λ r. ⌜ r ≡ requestOf (length (now (rec .entry))) (calls (receive (now (rec .entry)))) ⌝ }
+    ensures { λ r. ⌜ r ≡ requestOf (length (now (rec .entry))) (calls (receive (now (rec .entry)) none)) ⌝ }
 {
     let mut r = no_call(rec.len(), 0);
     r.receive = true;

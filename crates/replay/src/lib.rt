@@ -18,6 +18,7 @@ ghost use Prim.Native.Nat.{_+_, _-_, _^_, _≤_, _<_};
 ghost use lib.Dec.{eqb};
 ghost use lib.ListN.{length};
 ghost use Rattle.codec.specs.Bytes.{part, patch};
+ghost use Rattle.protocol.specs.Contents.{none};
 ghost use Rattle.protocol.specs.OneCall.{receive, timer, propose};
 ghost use Rattle.replica.specs.Reply.{lentTo};
 ghost use Rattle.replay.specs.Input.{calls};
@@ -198,7 +199,7 @@ fn propose_call(
     answer: u64,
 ) -> u64
     ensures { λ r. ⌜ afterAnswer r (lentTo (now (counters .exit)) (now (mem .exit)) (now (store .exit))) (now (out .exit))
-        ≡ cond is (answered (lentTo (now (counters .entry)) (now (mem .entry)) (now (store .entry))) (now (out .entry)) (calls (propose (name .bytes))))
+        ≡ cond is (answered (lentTo (now (counters .entry)) (now (mem .entry)) (now (store .entry))) (now (out .entry)) (calls (propose (name .bytes) none)))
         (afterAnswer answer (lentTo (now (counters .entry)) (now (mem .entry)) (now (store .entry))) (now (out .entry))) ⌝ }
 {
     if is {
@@ -221,7 +222,7 @@ fn record_call(
     answer: u64,
 ) -> u64
     ensures { λ r. ⌜ afterAnswer r (lentTo (now (counters .exit)) (now (mem .exit)) (now (store .exit))) (now (out .exit))
-        ≡ cond is (answered (lentTo (now (counters .entry)) (now (mem .entry)) (now (store .entry))) (now (out .entry)) (calls (receive (part (now (input .entry)) at used))))
+        ≡ cond is (answered (lentTo (now (counters .entry)) (now (mem .entry)) (now (store .entry))) (now (out .entry)) (calls (receive (part (now (input .entry)) at used) none)))
         (afterAnswer answer (lentTo (now (counters .entry)) (now (mem .entry)) (now (store .entry))) (now (out .entry))) ⌝ }
 {
     if is {

@@ -1,15 +1,17 @@
 -- `replay::propose_call` meets its contract: a walk of its MIR. tools/walk.py wrote it from propose_call.py.
 -- Assumes nothing.
-use Rattle.walks.proofs.Walk.{_≡_, refl, ℕ, [], _∷_, List, length, URA, fullShare, named, Val, vptr, SProp, ent, id⊢, emp, via, fst∗, GName, Lft, Share, ftrue, flft, Memory, Routine, Heap, Calls, Loops, WpFn, Tables, Atoms, Fun, givenOf, tables, tablesOf, Given, ‵, _⊛_, _$_, _∵_, !, qed, move, drop, split, fsplit, keep, look, init, stop, hop, fld, from, load, addr, of-opd, and-then, no-more, assigns, returns, enter, alloc1, alloc0, params1, pass1, pass0, assigns-last, agg, whole, sub}
-use Rattle.walks.proofs.Walk.{look-in, FmC, fmOf, WpFn-mono, owns, Is, mem, Boolean, u8, u64, MutRef, ptr-vals, mut-tells, sliceVal, MutSlice, Room, slice-vals, mut-slice-tells, plain, onEntry, Meets, tripleOf, Contract, Triple, calls-at, calls-at-last, entered, cited, Stays, stay-ref, stay-dropped, walkOf, AllGo, goes-dropped, goes-ref, Walks, walked, walk-meets, stay-slice, goes-slice, yes, Bool, true, false}
+use Rattle.walks.proofs.Walk.{_≡_, refl, _∙_, ap, sym, ℕ, [], _∷_, List, length, URA, fullShare, named, Val, vptr, SProp, ent, id⊢, emp, via, fst∗, GName, Lft, Share, ftrue, flft, Memory, Routine, Heap, Calls, Loops, WpFn, Tables, Atoms, Fun, givenOf, tables, tablesOf, Given, ‵, _⊛_, _$_, _∵_, !, qed, move, drop, split, fsplit, keep, look, init, stop, hop, fld, from, load, addr, of-opd, and-then, no-more, assigns, returns, enter, alloc1, alloc0, params1, pass1, pass0, assigns-last}
+use Rattle.walks.proofs.Walk.{agg, whole, sub, look-in, FmC, fmOf, WpFn-mono, owns, Is, mem, Boolean, u8, u64, MutRef, ptr-vals, mut-tells, sliceVal, MutSlice, Room, slice-vals, mut-slice-tells, plain, onEntry, Meets, tripleOf, Contract, Triple, calls-at, calls-at-last, entered, cited, Stays, stay-ref, stay-dropped, walkOf, AllGo, goes-dropped, goes-ref, Walks, walked, walk-meets, stay-slice, goes-slice, yes, Bool, true, false}
 use Rattle.walks.proofs.Data.{fits, word, flag}
 use Rattle.walks.proofs.Calls.{end, held, made, out, so, of, asks, back-again, came, came-last, full, empty, leave, ends}
 use Rattle.walks.proofs.Lent.{lying, lend-mut}
 use Rattle.walks.proofs.Local.{pointing, lend-ref, back-ref, forks}
 use Rattle.memory.specs.Leaders.{byList}
 use Rattle.protocol.specs.Calls.{proposeCall}
+use Rattle.protocol.specs.Contents.{none}
 use Rattle.protocol.specs.OneCall.{propose}
 use Rattle.replica.specs.Reply.{lentTo, replied, repliedBy}
+use Rattle.protocol.proofs.call.Contents.{propose-as-before}
 use Rattle.replay.proofs.Moves.{called, uncalled}
 use Rattle.blocks.proofs.Ancestry.{is-true, is-false}
 use Rattle.counters.specs.declared.Counters.{Counters}
@@ -81,10 +83,10 @@ module _ {M : Type 1} (𝓤 : URA M) (H : Heap 𝓤) (A : Atoms 𝓤) (W : Given
       -- call 1: `replay::refusal_of`
       let y1 : refusal-ofᶜ 𝓤 H A mem run .Ghost = ((tt, tt, tt, (r0, tt), ((Replyᴰ .val r0) ∷ [], tt)), tt) in asks ! refusal-of.ended (refusal-of.clauses 𝓤 H A mem run) y1 0 (of W Replyᴰ r0 is0 end) refl (id⊢ 𝓤 _) $ calls-at-last ! fm (refusal-ofᶜ 𝓤 H A mem run) (known .1) y1 (and-then ! (load ! (from ! (stop !)) (look ! 27 refl)) (no-more !)) (λ w1. came-last ! refusal-of.ended (refusal-of.clauses 𝓤 H A mem run) y1 w1 word 22 refl refl ([]) (λ r ws. r ≡ r0 .refusal) (λ r ws. id⊢ 𝓤 _) (λ r1 ws1 is1 e1. on0 _ $ assigns ! (of-opd ! (load ! (from ! (stop !)) (look ! 22 refl))) (from ! (stop !)) (init ! 42 refl (fits W word r1 is1 .0)) $
       -- the exit
-      returns ! (look ! 42 refl) $ leave ! 8 (full _ ∷ full _ ∷ full _ ∷ full _ ∷ full _ ∷ full _ ∷ full _ ∷ full _ ∷ full _ ∷ full _ ∷ full _ ∷ full _ ∷ full _ ∷ full _ ∷ full _ ∷ full _ ∷ full _ ∷ full _ ∷ []) refl $ keep ! (7 ∷ 5 ∷ 3 ∷ 1 ∷ 6 ∷ 4 ∷ 2 ∷ 0 ∷ []) $ ends W f.ended stayed (f.clauses 𝓤 H A mem run) y (word .val r1) r1 ((ws0 .0), ((ws0 .1 .0), ((ws0 .1 .1 .0), ((ws0 .1 .1 .1 .0), (tt, (tt, (tt, tt))))))) (tt, (l0-1, (l0-2, (l0-3, (tt, (tt, (tt, tt))))))) (word .makes 𝓤 H A W r1 _ is1) (so 𝓤 (called (lentTo cs m ys) out (propose (nm .bytes)) go ans r1 r0 (is-true go yes0) e1 e0)) (held (held (held (held (made (id⊢ 𝓤 _) (made (id⊢ 𝓤 _) (made (id⊢ 𝓤 _) end)))))))))))))))))))
+      returns ! (look ! 42 refl) $ leave ! 8 (full _ ∷ full _ ∷ full _ ∷ full _ ∷ full _ ∷ full _ ∷ full _ ∷ full _ ∷ full _ ∷ full _ ∷ full _ ∷ full _ ∷ full _ ∷ full _ ∷ full _ ∷ full _ ∷ full _ ∷ full _ ∷ []) refl $ keep ! (7 ∷ 5 ∷ 3 ∷ 1 ∷ 6 ∷ 4 ∷ 2 ∷ 0 ∷ []) $ ends W f.ended stayed (f.clauses 𝓤 H A mem run) y (word .val r1) r1 ((ws0 .0), ((ws0 .1 .0), ((ws0 .1 .1 .0), ((ws0 .1 .1 .1 .0), (tt, (tt, (tt, tt))))))) (tt, (l0-1, (l0-2, (l0-3, (tt, (tt, (tt, tt))))))) (word .makes 𝓤 H A W r1 _ is1) (so 𝓤 (called (lentTo cs m ys) out (propose (nm .bytes) none) go ans r1 r0 (is-true go yes0) e1 (e0 ∙ ap repliedBy (sym (propose-as-before byList (lentTo cs m ys) out (nm .bytes)))))) (held (held (held (held (made (id⊢ 𝓤 _) (made (id⊢ 𝓤 _) (made (id⊢ 𝓤 _) end)))))))))))))))))))
       (λ joined0 on0 no0. assigns-last ! (of-opd ! (load ! (from ! (stop !)) (look ! 28 refl))) (from ! (stop !)) (init ! 22 refl (fits W word ans ans-is .0)) $ on0 _ $ assigns ! (of-opd ! (load ! (from ! (stop !)) (look ! 22 refl))) (from ! (stop !)) (init ! 42 refl (fits W word ans ans-is .0)) $
       -- the exit
-      returns ! (look ! 42 refl) $ leave ! 8 (full _ ∷ full _ ∷ full _ ∷ full _ ∷ full _ ∷ full _ ∷ full _ ∷ full _ ∷ empty ∷ full _ ∷ full _ ∷ empty ∷ empty ∷ empty ∷ empty ∷ empty ∷ empty ∷ empty ∷ []) refl $ keep ! (7 ∷ 6 ∷ 5 ∷ 4 ∷ 3 ∷ 2 ∷ 1 ∷ 0 ∷ []) $ ends W f.ended stayed (f.clauses 𝓤 H A mem run) y (word .val ans) ans (cs, (m, (ys, (out, (tt, (tt, (tt, tt))))))) (tt, (refl, (refl, (refl, (tt, (tt, (tt, tt))))))) (word .makes 𝓤 H A W ans _ ans-is) (so 𝓤 (uncalled (lentTo cs m ys) out (propose (nm .bytes)) go ans (is-false go no0))) (held (held (held (held (made (id⊢ 𝓤 _) (made (id⊢ 𝓤 _) (made (id⊢ 𝓤 _) end))))))))))))))))))))))))))
+      returns ! (look ! 42 refl) $ leave ! 8 (full _ ∷ full _ ∷ full _ ∷ full _ ∷ full _ ∷ full _ ∷ full _ ∷ full _ ∷ empty ∷ full _ ∷ full _ ∷ empty ∷ empty ∷ empty ∷ empty ∷ empty ∷ empty ∷ empty ∷ []) refl $ keep ! (7 ∷ 6 ∷ 5 ∷ 4 ∷ 3 ∷ 2 ∷ 1 ∷ 0 ∷ []) $ ends W f.ended stayed (f.clauses 𝓤 H A mem run) y (word .val ans) ans (cs, (m, (ys, (out, (tt, (tt, (tt, tt))))))) (tt, (refl, (refl, (refl, (tt, (tt, (tt, tt))))))) (word .makes 𝓤 H A W ans _ ans-is) (so 𝓤 (uncalled (lentTo cs m ys) out (propose (nm .bytes) none) go ans (is-false go no0))) (held (held (held (held (made (id⊢ 𝓤 _) (made (id⊢ 𝓤 _) (made (id⊢ 𝓤 _) end))))))))))))))))))))))))))
 
 module _ {M : Type 1} (𝓤 : URA M) (H : Heap 𝓤) (A : Atoms 𝓤) (W : Given 𝓤 H A) (mem : Memory → SProp 𝓤) (run : Routine → Fun 𝓤) where
   goes : AllGo 𝓤 H A W 4 (f.signature .params) (f.ended .kept) stayed

@@ -8,6 +8,7 @@ use Rattle.walks.proofs.Lent.{lying, Shr, lend-mut}
 use Rattle.walks.proofs.Local.{pointing, lend-ref, back-ref}
 use mathlib.Core.Bool.{cond}
 use Rattle.codec.specs.Bytes.{part}
+use Rattle.protocol.specs.Contents.{none}
 use Rattle.protocol.specs.OneCall.{receive, timer, propose}
 use Rattle.replica.specs.Reply.{lentTo}
 use Rattle.replay.specs.Input.{calls}
@@ -116,10 +117,10 @@ module _ {M : Type 1} (𝓤 : URA M) (H : Heap 𝓤) (A : Atoms 𝓤) (W : Given
       let y1 : timer-callᶜ 𝓤 H A mem run .Ghost = ((((ν1-0 ∷ []), ((ν1-1 ∷ []), ((ν1-2 ∷ []), ((ν1-3 ∷ []), tt)))), (fullShare, (fullShare, (fullShare, (fullShare, tt)))), tt, (pointing Countersᴿ cs-b cs-o δ1-0 cs, (lying u8 m-b m-o δ1-1 m, (lying Blockᴿ ys-b ys-o δ1-2 ys, (lying u8 out-b out-o δ1-3 out, ((r0 .timer), ((r0 .view), ((r0 .answer), tt))))))), (vptr cs-b cs-o ∷ [], (m-s ∷ [], (ys-s ∷ [], (out-s ∷ [], ((flag .val (r0 .timer)) ∷ [], ((Viewᴰ .val (r0 .view)) ∷ [], ((word .val (r0 .answer)) ∷ [], tt)))))))), tt) in move ! (9 ∷ 6 ∷ 3 ∷ 0 ∷ 10 ∷ 7 ∷ 4 ∷ 1 ∷ []) $ asks ! timer-call.ended (timer-call.clauses 𝓤 H A mem run) y1 8 (held (held (held (held (of W flag (r0 .timer) (Request-timer r0 is0) (of W Viewᴰ (r0 .view) (Request-view r0 is0) (of W word (r0 .answer) (Request-answer r0 is0) end))))))) refl (id⊢ 𝓤 _) $ calls-at ! fm (timer-callᶜ 𝓤 H A mem run) (known .1 .0) y1 (and-then ! (load ! (from ! (stop !)) (look ! 55 refl)) (and-then ! (load ! (from ! (stop !)) (look ! 51 refl)) (and-then ! (load ! (from ! (stop !)) (look ! 47 refl)) (and-then ! (load ! (from ! (stop !)) (look ! 43 refl)) (and-then ! (load ! (from ! (fld ! {τ = tyBool} {d = 24} refl (stop !))) (look-in ! 65 {τ = tyBool} (sub ! 3 {τ = tyBool} {d = 24} refl (whole !)))) (and-then ! (load ! (from ! (fld ! {τ = Viewᵀ} {d = 32} refl (stop !))) (look-in ! 65 {τ = Viewᵀ} (sub ! 4 {τ = Viewᵀ} {d = 32} refl (whole !)))) (and-then ! (load ! (from ! (fld ! {τ = tyInt w64} {d = 16} refl (stop !))) (look-in ! 65 {τ = tyInt w64} (sub ! 2 {τ = tyInt w64} {d = 16} refl (whole !)))) (no-more !)))))))) (λ w1. came ! timer-call.ended (timer-call.clauses 𝓤 H A mem run) y1 w1 word 62 refl refl (true ∷ true ∷ true ∷ true ∷ false ∷ false ∷ false ∷ []) (λ r ws. afterAnswer r (lentTo (ws .0) (ws .1 .0) (ws .1 .1 .0)) (ws .1 .1 .1 .0) ≡ cond (r0 .timer) (answered (lentTo cs m ys) out (calls (timer ((r0 .view) .0)))) (afterAnswer (r0 .answer) (lentTo cs m ys) out)) (λ r ws. id⊢ 𝓤 _) (λ r1 ws1 is1 e1. move ! (0 ∷ 4 ∷ 11 ∷ []) $ back-ref ! tt Countersᴿ cs-b cs-o cs (ws1 .0) $ move ! (2 ∷ 5 ∷ 10 ∷ []) $ back-again ! tt u8 m-b m-o m-n m (ws1 .1 .0) m-room refl (λ l1-1. move ! (4 ∷ 6 ∷ 9 ∷ []) $ back-again ! tt Blockᴿ ys-b ys-o ys-n ys (ws1 .1 .1 .0) ys-room refl (λ l1-2. move ! (6 ∷ 7 ∷ 8 ∷ []) $ back-again ! tt u8 out-b out-o out-n out (ws1 .1 .1 .1 .0) out-room refl (λ l1-3. assigns ! (addr ! (from ! (hop ! (look ! 84 refl) (stop !)))) (from ! (stop !)) (init ! 44 refl (tt, tt)) $ assigns ! (addr ! (from ! (fld ! refl (hop ! (look-in ! 82 (sub ! 0 refl (whole !))) (stop !))))) (from ! (stop !)) (init ! 42 refl (tt, tt)) $ assigns ! (agg ! (and-then ! (load ! (from ! (stop !)) (look ! 42 refl)) (and-then ! (load ! (from ! (fld ! refl (stop !))) (look-in ! 82 (sub ! 1 refl (whole !)))) (no-more !)))) (from ! (stop !)) (init ! 40 refl (tt, (tt, (record { fits = m-room .0 }, tt)))) $ assigns ! (addr ! (from ! (fld ! refl (hop ! (look-in ! 80 (sub ! 0 refl (whole !))) (stop !))))) (from ! (stop !)) (init ! 38 refl (tt, tt)) $ assigns ! (agg ! (and-then ! (load ! (from ! (stop !)) (look ! 38 refl)) (and-then ! (load ! (from ! (fld ! refl (stop !))) (look-in ! 80 (sub ! 1 refl (whole !)))) (no-more !)))) (from ! (stop !)) (init ! 36 refl (tt, (tt, (record { fits = ys-room .0 }, tt)))) $ assigns ! (addr ! (from ! (fld ! refl (hop ! (look-in ! 78 (sub ! 0 refl (whole !))) (stop !))))) (from ! (stop !)) (init ! 34 refl (tt, tt)) $ assigns ! (agg ! (and-then ! (load ! (from ! (stop !)) (look ! 34 refl)) (and-then ! (load ! (from ! (fld ! refl (stop !))) (look-in ! 78 (sub ! 1 refl (whole !)))) (no-more !)))) (from ! (stop !)) (init ! 32 refl (tt, (tt, (record { fits = out-room .0 }, tt)))) $
       -- call 2: `replay::propose_call`
       move ! (6 ∷ 7 ∷ []) $ lend-ref ! tt Countersᴿ cs-b cs-o (ws1 .0) (λ ν2-0 δ2-0. move ! (7 ∷ 8 ∷ []) $ lend-mut ! tt u8 m-b m-o m-n (ws1 .1 .0) l1-1 (λ ν2-1 δ2-1. move ! (8 ∷ 9 ∷ []) $ lend-mut ! tt Blockᴿ ys-b ys-o ys-n (ws1 .1 .1 .0) l1-2 (λ ν2-2 δ2-2. move ! (9 ∷ 10 ∷ []) $ lend-mut ! tt u8 out-b out-o out-n (ws1 .1 .1 .1 .0) l1-3 (λ ν2-3 δ2-3.
-      let y2 : propose-callᶜ 𝓤 H A mem run .Ghost = ((((ν2-0 ∷ []), ((ν2-1 ∷ []), ((ν2-2 ∷ []), ((ν2-3 ∷ []), tt)))), (fullShare, (fullShare, (fullShare, (fullShare, tt)))), tt, (pointing Countersᴿ cs-b cs-o δ2-0 (ws1 .0), (lying u8 m-b m-o δ2-1 (ws1 .1 .0), (lying Blockᴿ ys-b ys-o δ2-2 (ws1 .1 .1 .0), (lying u8 out-b out-o δ2-3 (ws1 .1 .1 .1 .0), ((r0 .propose), ((r0 .name), (r1, tt))))))), (vptr cs-b cs-o ∷ [], (m-s ∷ [], (ys-s ∷ [], (out-s ∷ [], ((flag .val (r0 .propose)) ∷ [], ((Nameᴰ .val (r0 .name)) ∷ [], ((word .val r1) ∷ [], tt)))))))), tt) in move ! (9 ∷ 6 ∷ 3 ∷ 0 ∷ 10 ∷ 7 ∷ 4 ∷ 1 ∷ []) $ asks ! propose-call.ended (propose-call.clauses 𝓤 H A mem run) y2 8 (held (held (held (held (of W flag (r0 .propose) (Request-propose r0 is0) (of W Nameᴰ (r0 .name) (Request-name r0 is0) (of W word r1 is1 end))))))) refl (id⊢ 𝓤 _) $ calls-at ! fm (propose-callᶜ 𝓤 H A mem run) (known .1 .1 .0) y2 (and-then ! (load ! (from ! (stop !)) (look ! 41 refl)) (and-then ! (load ! (from ! (stop !)) (look ! 37 refl)) (and-then ! (load ! (from ! (stop !)) (look ! 33 refl)) (and-then ! (load ! (from ! (stop !)) (look ! 29 refl)) (and-then ! (load ! (from ! (fld ! {τ = tyBool} {d = 40} refl (stop !))) (look-in ! 65 {τ = tyBool} (sub ! 5 {τ = tyBool} {d = 40} refl (whole !)))) (and-then ! (load ! (from ! (fld ! {τ = Nameᵀ} {d = 41} refl (stop !))) (look-in ! 65 {τ = Nameᵀ} (sub ! 6 {τ = Nameᵀ} {d = 41} refl (whole !)))) (and-then ! (load ! (from ! (stop !)) (look ! 63 refl)) (no-more !)))))))) (λ w2. came ! propose-call.ended (propose-call.clauses 𝓤 H A mem run) y2 w2 word 60 refl refl (true ∷ true ∷ true ∷ true ∷ false ∷ false ∷ false ∷ []) (λ r ws. afterAnswer r (lentTo (ws .0) (ws .1 .0) (ws .1 .1 .0)) (ws .1 .1 .1 .0) ≡ cond (r0 .propose) (answered (lentTo (ws1 .0) (ws1 .1 .0) (ws1 .1 .1 .0)) (ws1 .1 .1 .1 .0) (calls (propose ((r0 .name) .bytes)))) (afterAnswer r1 (lentTo (ws1 .0) (ws1 .1 .0) (ws1 .1 .1 .0)) (ws1 .1 .1 .1 .0))) (λ r ws. id⊢ 𝓤 _) (λ r2 ws2 is2 e2. move ! (0 ∷ 4 ∷ 11 ∷ []) $ back-ref ! tt Countersᴿ cs-b cs-o (ws1 .0) (ws2 .0) $ move ! (2 ∷ 5 ∷ 10 ∷ []) $ back-again ! tt u8 m-b m-o m-n (ws1 .1 .0) (ws2 .1 .0) m-room l1-1 (λ l2-1. move ! (4 ∷ 6 ∷ 9 ∷ []) $ back-again ! tt Blockᴿ ys-b ys-o ys-n (ws1 .1 .1 .0) (ws2 .1 .1 .0) ys-room l1-2 (λ l2-2. move ! (6 ∷ 7 ∷ 8 ∷ []) $ back-again ! tt u8 out-b out-o out-n (ws1 .1 .1 .1 .0) (ws2 .1 .1 .1 .0) out-room l1-3 (λ l2-3. assigns ! (addr ! (from ! (hop ! (look ! 84 refl) (stop !)))) (from ! (stop !)) (init ! 30 refl (tt, tt)) $ assigns ! (addr ! (from ! (fld ! refl (hop ! (look-in ! 82 (sub ! 0 refl (whole !))) (stop !))))) (from ! (stop !)) (init ! 28 refl (tt, tt)) $ assigns ! (agg ! (and-then ! (load ! (from ! (stop !)) (look ! 28 refl)) (and-then ! (load ! (from ! (fld ! refl (stop !))) (look-in ! 82 (sub ! 1 refl (whole !)))) (no-more !)))) (from ! (stop !)) (init ! 26 refl (tt, (tt, (record { fits = m-room .0 }, tt)))) $ assigns ! (addr ! (from ! (fld ! refl (hop ! (look-in ! 80 (sub ! 0 refl (whole !))) (stop !))))) (from ! (stop !)) (init ! 24 refl (tt, tt)) $ assigns ! (agg ! (and-then ! (load ! (from ! (stop !)) (look ! 24 refl)) (and-then ! (load ! (from ! (fld ! refl (stop !))) (look-in ! 80 (sub ! 1 refl (whole !)))) (no-more !)))) (from ! (stop !)) (init ! 22 refl (tt, (tt, (record { fits = ys-room .0 }, tt)))) $ assigns ! (addr ! (from ! (fld ! refl (hop ! (look-in ! 78 (sub ! 0 refl (whole !))) (stop !))))) (from ! (stop !)) (init ! 20 refl (tt, tt)) $ assigns ! (agg ! (and-then ! (load ! (from ! (stop !)) (look ! 20 refl)) (and-then ! (load ! (from ! (fld ! refl (stop !))) (look-in ! 78 (sub ! 1 refl (whole !)))) (no-more !)))) (from ! (stop !)) (init ! 18 refl (tt, (tt, (record { fits = out-room .0 }, tt)))) $
+      let y2 : propose-callᶜ 𝓤 H A mem run .Ghost = ((((ν2-0 ∷ []), ((ν2-1 ∷ []), ((ν2-2 ∷ []), ((ν2-3 ∷ []), tt)))), (fullShare, (fullShare, (fullShare, (fullShare, tt)))), tt, (pointing Countersᴿ cs-b cs-o δ2-0 (ws1 .0), (lying u8 m-b m-o δ2-1 (ws1 .1 .0), (lying Blockᴿ ys-b ys-o δ2-2 (ws1 .1 .1 .0), (lying u8 out-b out-o δ2-3 (ws1 .1 .1 .1 .0), ((r0 .propose), ((r0 .name), (r1, tt))))))), (vptr cs-b cs-o ∷ [], (m-s ∷ [], (ys-s ∷ [], (out-s ∷ [], ((flag .val (r0 .propose)) ∷ [], ((Nameᴰ .val (r0 .name)) ∷ [], ((word .val r1) ∷ [], tt)))))))), tt) in move ! (9 ∷ 6 ∷ 3 ∷ 0 ∷ 10 ∷ 7 ∷ 4 ∷ 1 ∷ []) $ asks ! propose-call.ended (propose-call.clauses 𝓤 H A mem run) y2 8 (held (held (held (held (of W flag (r0 .propose) (Request-propose r0 is0) (of W Nameᴰ (r0 .name) (Request-name r0 is0) (of W word r1 is1 end))))))) refl (id⊢ 𝓤 _) $ calls-at ! fm (propose-callᶜ 𝓤 H A mem run) (known .1 .1 .0) y2 (and-then ! (load ! (from ! (stop !)) (look ! 41 refl)) (and-then ! (load ! (from ! (stop !)) (look ! 37 refl)) (and-then ! (load ! (from ! (stop !)) (look ! 33 refl)) (and-then ! (load ! (from ! (stop !)) (look ! 29 refl)) (and-then ! (load ! (from ! (fld ! {τ = tyBool} {d = 40} refl (stop !))) (look-in ! 65 {τ = tyBool} (sub ! 5 {τ = tyBool} {d = 40} refl (whole !)))) (and-then ! (load ! (from ! (fld ! {τ = Nameᵀ} {d = 41} refl (stop !))) (look-in ! 65 {τ = Nameᵀ} (sub ! 6 {τ = Nameᵀ} {d = 41} refl (whole !)))) (and-then ! (load ! (from ! (stop !)) (look ! 63 refl)) (no-more !)))))))) (λ w2. came ! propose-call.ended (propose-call.clauses 𝓤 H A mem run) y2 w2 word 60 refl refl (true ∷ true ∷ true ∷ true ∷ false ∷ false ∷ false ∷ []) (λ r ws. afterAnswer r (lentTo (ws .0) (ws .1 .0) (ws .1 .1 .0)) (ws .1 .1 .1 .0) ≡ cond (r0 .propose) (answered (lentTo (ws1 .0) (ws1 .1 .0) (ws1 .1 .1 .0)) (ws1 .1 .1 .1 .0) (calls (propose ((r0 .name) .bytes) none))) (afterAnswer r1 (lentTo (ws1 .0) (ws1 .1 .0) (ws1 .1 .1 .0)) (ws1 .1 .1 .1 .0))) (λ r ws. id⊢ 𝓤 _) (λ r2 ws2 is2 e2. move ! (0 ∷ 4 ∷ 11 ∷ []) $ back-ref ! tt Countersᴿ cs-b cs-o (ws1 .0) (ws2 .0) $ move ! (2 ∷ 5 ∷ 10 ∷ []) $ back-again ! tt u8 m-b m-o m-n (ws1 .1 .0) (ws2 .1 .0) m-room l1-1 (λ l2-1. move ! (4 ∷ 6 ∷ 9 ∷ []) $ back-again ! tt Blockᴿ ys-b ys-o ys-n (ws1 .1 .1 .0) (ws2 .1 .1 .0) ys-room l1-2 (λ l2-2. move ! (6 ∷ 7 ∷ 8 ∷ []) $ back-again ! tt u8 out-b out-o out-n (ws1 .1 .1 .1 .0) (ws2 .1 .1 .1 .0) out-room l1-3 (λ l2-3. assigns ! (addr ! (from ! (hop ! (look ! 84 refl) (stop !)))) (from ! (stop !)) (init ! 30 refl (tt, tt)) $ assigns ! (addr ! (from ! (fld ! refl (hop ! (look-in ! 82 (sub ! 0 refl (whole !))) (stop !))))) (from ! (stop !)) (init ! 28 refl (tt, tt)) $ assigns ! (agg ! (and-then ! (load ! (from ! (stop !)) (look ! 28 refl)) (and-then ! (load ! (from ! (fld ! refl (stop !))) (look-in ! 82 (sub ! 1 refl (whole !)))) (no-more !)))) (from ! (stop !)) (init ! 26 refl (tt, (tt, (record { fits = m-room .0 }, tt)))) $ assigns ! (addr ! (from ! (fld ! refl (hop ! (look-in ! 80 (sub ! 0 refl (whole !))) (stop !))))) (from ! (stop !)) (init ! 24 refl (tt, tt)) $ assigns ! (agg ! (and-then ! (load ! (from ! (stop !)) (look ! 24 refl)) (and-then ! (load ! (from ! (fld ! refl (stop !))) (look-in ! 80 (sub ! 1 refl (whole !)))) (no-more !)))) (from ! (stop !)) (init ! 22 refl (tt, (tt, (record { fits = ys-room .0 }, tt)))) $ assigns ! (addr ! (from ! (fld ! refl (hop ! (look-in ! 78 (sub ! 0 refl (whole !))) (stop !))))) (from ! (stop !)) (init ! 20 refl (tt, tt)) $ assigns ! (agg ! (and-then ! (load ! (from ! (stop !)) (look ! 20 refl)) (and-then ! (load ! (from ! (fld ! refl (stop !))) (look-in ! 78 (sub ! 1 refl (whole !)))) (no-more !)))) (from ! (stop !)) (init ! 18 refl (tt, (tt, (record { fits = out-room .0 }, tt)))) $
       -- call 3: `replay::record_call`
       move ! (6 ∷ 7 ∷ []) $ lend-ref ! tt Countersᴿ cs-b cs-o (ws2 .0) (λ ν3-0 δ3-0. move ! (7 ∷ 8 ∷ []) $ lend-mut ! tt u8 m-b m-o m-n (ws2 .1 .0) l2-1 (λ ν3-1 δ3-1. move ! (8 ∷ 9 ∷ []) $ lend-mut ! tt Blockᴿ ys-b ys-o ys-n (ws2 .1 .1 .0) l2-2 (λ ν3-2 δ3-2. move ! (9 ∷ 10 ∷ []) $ lend-mut ! tt u8 out-b out-o out-n (ws2 .1 .1 .1 .0) l2-3 (λ ν3-3 δ3-3. move ! (13 ∷ []) $ use1 W (‵ (Shr u8 κ4 inp-b inp-o inp-γ inp-n inp) ⊛ ‵ (Shr u8 κ4 inp-b inp-o inp-γ inp-n inp)) (shr-slice-copy 𝓤 H A W (named 0) κ4 u8 .twice (lying u8 inp-b inp-o inp-γ inp) (inp-s ∷ [])) $ split ! $
-      let y3 : record-callᶜ 𝓤 H A mem run .Ghost = ((((ν3-0 ∷ []), ((ν3-1 ∷ []), ((ν3-2 ∷ []), ((ν3-3 ∷ []), (κ4, tt))))), (fullShare, (fullShare, (fullShare, (fullShare, (q4, tt))))), tt, (pointing Countersᴿ cs-b cs-o δ3-0 (ws2 .0), (lying u8 m-b m-o δ3-1 (ws2 .1 .0), (lying Blockᴿ ys-b ys-o δ3-2 (ws2 .1 .1 .0), (lying u8 out-b out-o δ3-3 (ws2 .1 .1 .1 .0), (lying u8 inp-b inp-o inp-γ inp, ((r0 .receive), ((p .at), ((r0 .used), (r2, tt))))))))), (vptr cs-b cs-o ∷ [], (m-s ∷ [], (ys-s ∷ [], (out-s ∷ [], (inp-s ∷ [], ((flag .val (r0 .receive)) ∷ [], ((word .val (p .at)) ∷ [], ((word .val (r0 .used)) ∷ [], ((word .val r2) ∷ [], tt)))))))))), tt) in move ! (11 ∷ 8 ∷ 5 ∷ 2 ∷ 14 ∷ 12 ∷ 9 ∷ 6 ∷ 3 ∷ 0 ∷ []) $ asks ! record-call.ended (record-call.clauses 𝓤 H A mem run) y3 10 (held (held (held (held (held (of W flag (r0 .receive) (Request-receive r0 is0) (of W word (p .at) (Place-at p p-is) (of W word (r0 .used) (Request-used r0 is0) (of W word r2 is2 end))))))))) refl (id⊢ 𝓤 _) $ calls-at ! fm (record-callᶜ 𝓤 H A mem run) (known .1 .1 .1 .0) y3 (and-then ! (load ! (from ! (stop !)) (look ! 26 refl)) (and-then ! (load ! (from ! (stop !)) (look ! 22 refl)) (and-then ! (load ! (from ! (stop !)) (look ! 18 refl)) (and-then ! (load ! (from ! (stop !)) (look ! 14 refl)) (and-then ! (load ! (from ! (stop !)) (look ! 72 refl)) (and-then ! (load ! (from ! (fld ! {τ = tyBool} {d = 73} refl (stop !))) (look-in ! 64 {τ = tyBool} (sub ! 7 {τ = tyBool} {d = 73} refl (whole !)))) (and-then ! (load ! (from ! (fld ! {τ = tyInt w64} {d = 0} refl (stop !))) (look-in ! 66 {τ = tyInt w64} (sub ! 0 {τ = tyInt w64} {d = 0} refl (whole !)))) (and-then ! (load ! (from ! (fld ! {τ = tyInt w64} {d = 8} refl (stop !))) (look-in ! 64 {τ = tyInt w64} (sub ! 1 {τ = tyInt w64} {d = 8} refl (whole !)))) (and-then ! (load ! (from ! (stop !)) (look ! 60 refl)) (no-more !)))))))))) (λ w3. came ! record-call.ended (record-call.clauses 𝓤 H A mem run) y3 w3 word 57 refl refl (true ∷ true ∷ true ∷ true ∷ false ∷ false ∷ false ∷ false ∷ false ∷ []) (λ r ws. afterAnswer r (lentTo (ws .0) (ws .1 .0) (ws .1 .1 .0)) (ws .1 .1 .1 .0) ≡ cond (r0 .receive) (answered (lentTo (ws2 .0) (ws2 .1 .0) (ws2 .1 .1 .0)) (ws2 .1 .1 .1 .0) (calls (receive (part inp (p .at) (r0 .used))))) (afterAnswer r2 (lentTo (ws2 .0) (ws2 .1 .0) (ws2 .1 .1 .0)) (ws2 .1 .1 .1 .0))) (λ r ws. id⊢ 𝓤 _) (λ r3 ws3 is3 e3. move ! (0 ∷ 5 ∷ 13 ∷ []) $ back-ref ! tt Countersᴿ cs-b cs-o (ws2 .0) (ws3 .0) $ move ! (2 ∷ 6 ∷ 12 ∷ []) $ back-again ! tt u8 m-b m-o m-n (ws2 .1 .0) (ws3 .1 .0) m-room l2-1 (λ l3-1. move ! (4 ∷ 7 ∷ 11 ∷ []) $ back-again ! tt Blockᴿ ys-b ys-o ys-n (ws2 .1 .1 .0) (ws3 .1 .1 .0) ys-room l2-2 (λ l3-2. move ! (6 ∷ 8 ∷ 10 ∷ []) $ back-again ! tt u8 out-b out-o out-n (ws2 .1 .1 .1 .0) (ws3 .1 .1 .1 .0) out-room l2-3 (λ l3-3. assigns ! (addr ! (from ! (hop ! (look ! 84 refl) (stop !)))) (from ! (stop !)) (init ! 16 refl (tt, tt)) $ assigns ! (addr ! (from ! (fld ! refl (hop ! (look-in ! 74 (sub ! 0 refl (whole !))) (stop !))))) (from ! (stop !)) (init ! 14 refl (tt, tt)) $ assigns ! (agg ! (and-then ! (load ! (from ! (stop !)) (look ! 14 refl)) (and-then ! (load ! (from ! (fld ! refl (stop !))) (look-in ! 74 (sub ! 1 refl (whole !)))) (no-more !)))) (from ! (stop !)) (init ! 12 refl (tt, (tt, (record { fits = ls-room .0 }, tt)))) $
+      let y3 : record-callᶜ 𝓤 H A mem run .Ghost = ((((ν3-0 ∷ []), ((ν3-1 ∷ []), ((ν3-2 ∷ []), ((ν3-3 ∷ []), (κ4, tt))))), (fullShare, (fullShare, (fullShare, (fullShare, (q4, tt))))), tt, (pointing Countersᴿ cs-b cs-o δ3-0 (ws2 .0), (lying u8 m-b m-o δ3-1 (ws2 .1 .0), (lying Blockᴿ ys-b ys-o δ3-2 (ws2 .1 .1 .0), (lying u8 out-b out-o δ3-3 (ws2 .1 .1 .1 .0), (lying u8 inp-b inp-o inp-γ inp, ((r0 .receive), ((p .at), ((r0 .used), (r2, tt))))))))), (vptr cs-b cs-o ∷ [], (m-s ∷ [], (ys-s ∷ [], (out-s ∷ [], (inp-s ∷ [], ((flag .val (r0 .receive)) ∷ [], ((word .val (p .at)) ∷ [], ((word .val (r0 .used)) ∷ [], ((word .val r2) ∷ [], tt)))))))))), tt) in move ! (11 ∷ 8 ∷ 5 ∷ 2 ∷ 14 ∷ 12 ∷ 9 ∷ 6 ∷ 3 ∷ 0 ∷ []) $ asks ! record-call.ended (record-call.clauses 𝓤 H A mem run) y3 10 (held (held (held (held (held (of W flag (r0 .receive) (Request-receive r0 is0) (of W word (p .at) (Place-at p p-is) (of W word (r0 .used) (Request-used r0 is0) (of W word r2 is2 end))))))))) refl (id⊢ 𝓤 _) $ calls-at ! fm (record-callᶜ 𝓤 H A mem run) (known .1 .1 .1 .0) y3 (and-then ! (load ! (from ! (stop !)) (look ! 26 refl)) (and-then ! (load ! (from ! (stop !)) (look ! 22 refl)) (and-then ! (load ! (from ! (stop !)) (look ! 18 refl)) (and-then ! (load ! (from ! (stop !)) (look ! 14 refl)) (and-then ! (load ! (from ! (stop !)) (look ! 72 refl)) (and-then ! (load ! (from ! (fld ! {τ = tyBool} {d = 73} refl (stop !))) (look-in ! 64 {τ = tyBool} (sub ! 7 {τ = tyBool} {d = 73} refl (whole !)))) (and-then ! (load ! (from ! (fld ! {τ = tyInt w64} {d = 0} refl (stop !))) (look-in ! 66 {τ = tyInt w64} (sub ! 0 {τ = tyInt w64} {d = 0} refl (whole !)))) (and-then ! (load ! (from ! (fld ! {τ = tyInt w64} {d = 8} refl (stop !))) (look-in ! 64 {τ = tyInt w64} (sub ! 1 {τ = tyInt w64} {d = 8} refl (whole !)))) (and-then ! (load ! (from ! (stop !)) (look ! 60 refl)) (no-more !)))))))))) (λ w3. came ! record-call.ended (record-call.clauses 𝓤 H A mem run) y3 w3 word 57 refl refl (true ∷ true ∷ true ∷ true ∷ false ∷ false ∷ false ∷ false ∷ false ∷ []) (λ r ws. afterAnswer r (lentTo (ws .0) (ws .1 .0) (ws .1 .1 .0)) (ws .1 .1 .1 .0) ≡ cond (r0 .receive) (answered (lentTo (ws2 .0) (ws2 .1 .0) (ws2 .1 .1 .0)) (ws2 .1 .1 .1 .0) (calls (receive (part inp (p .at) (r0 .used)) none))) (afterAnswer r2 (lentTo (ws2 .0) (ws2 .1 .0) (ws2 .1 .1 .0)) (ws2 .1 .1 .1 .0))) (λ r ws. id⊢ 𝓤 _) (λ r3 ws3 is3 e3. move ! (0 ∷ 5 ∷ 13 ∷ []) $ back-ref ! tt Countersᴿ cs-b cs-o (ws2 .0) (ws3 .0) $ move ! (2 ∷ 6 ∷ 12 ∷ []) $ back-again ! tt u8 m-b m-o m-n (ws2 .1 .0) (ws3 .1 .0) m-room l2-1 (λ l3-1. move ! (4 ∷ 7 ∷ 11 ∷ []) $ back-again ! tt Blockᴿ ys-b ys-o ys-n (ws2 .1 .1 .0) (ws3 .1 .1 .0) ys-room l2-2 (λ l3-2. move ! (6 ∷ 8 ∷ 10 ∷ []) $ back-again ! tt u8 out-b out-o out-n (ws2 .1 .1 .1 .0) (ws3 .1 .1 .1 .0) out-room l2-3 (λ l3-3. assigns ! (addr ! (from ! (hop ! (look ! 84 refl) (stop !)))) (from ! (stop !)) (init ! 16 refl (tt, tt)) $ assigns ! (addr ! (from ! (fld ! refl (hop ! (look-in ! 74 (sub ! 0 refl (whole !))) (stop !))))) (from ! (stop !)) (init ! 14 refl (tt, tt)) $ assigns ! (agg ! (and-then ! (load ! (from ! (stop !)) (look ! 14 refl)) (and-then ! (load ! (from ! (fld ! refl (stop !))) (look-in ! 74 (sub ! 1 refl (whole !)))) (no-more !)))) (from ! (stop !)) (init ! 12 refl (tt, (tt, (record { fits = ls-room .0 }, tt)))) $
       -- call 4: `replay::report_call`
       move ! (6 ∷ 7 ∷ []) $ lend-ref ! tt Countersᴿ cs-b cs-o (ws3 .0) (λ ν4-0 δ4-0. move ! (11 ∷ 12 ∷ []) $ lend-mut ! tt u8 ls-b ls-o ls-n ls refl (λ ν4-1 δ4-1.
       let y4 : report-callᶜ 𝓤 H A mem run .Ghost = ((((ν4-0 ∷ []), ((ν4-1 ∷ []), tt)), (fullShare, (fullShare, tt)), tt, (pointing Countersᴿ cs-b cs-o δ4-0 (ws3 .0), (lying u8 ls-b ls-o δ4-1 ls, ((r0 .takes), ((r0 .used), (r3, (p, tt)))))), (vptr cs-b cs-o ∷ [], (ls-s ∷ [], ((flag .val (r0 .takes)) ∷ [], ((word .val (r0 .used)) ∷ [], ((word .val r3) ∷ [], ((Placeᴰ .val p) ∷ [], tt))))))), tt) in move ! (3 ∷ 0 ∷ 4 ∷ 1 ∷ []) $ asks ! report-call.ended (report-call.clauses 𝓤 H A mem run) y4 4 (held (held (of W flag (r0 .takes) (Request-takes r0 is0) (of W word (r0 .used) (Request-used r0 is0) (of W word r3 is3 (of W Placeᴰ p p-is end)))))) refl (so 𝓤 (room-there gone inp ls p r0 (inp-room .0) e0)) $ calls-at ! fm (report-callᶜ 𝓤 H A mem run) (known .1 .1 .1 .1) y4 (and-then ! (load ! (from ! (stop !)) (look ! 15 refl)) (and-then ! (load ! (from ! (stop !)) (look ! 11 refl)) (and-then ! (load ! (from ! (fld ! {τ = tyBool} {d = 0} refl (stop !))) (look-in ! 67 {τ = tyBool} (sub ! 0 {τ = tyBool} {d = 0} refl (whole !)))) (and-then ! (load ! (from ! (fld ! {τ = tyInt w64} {d = 8} refl (stop !))) (look-in ! 67 {τ = tyInt w64} (sub ! 1 {τ = tyInt w64} {d = 8} refl (whole !)))) (and-then ! (load ! (from ! (stop !)) (look ! 61 refl)) (and-then ! (load ! (from ! (stop !)) (look ! 69 refl)) (no-more !))))))) (λ w4. came ! report-call.ended (report-call.clauses 𝓤 H A mem run) y4 w4 Placeᴰ 84 refl refl (true ∷ true ∷ false ∷ false ∷ false ∷ false ∷ []) (λ r ws. ((ws .0) ≡ (ws3 .0)) × ((r ≡ cond (r0 .takes) (behind p (r0 .used) r3) p) × ((ws .1 .0) ≡ cond (r0 .takes) (withLine ls p r3 (ws3 .0)) ls))) (λ r ws. id⊢ 𝓤 _) (λ r4 ws4 is4 e4. move ! (0 ∷ 2 ∷ 5 ∷ []) $ back-ref ! tt Countersᴿ cs-b cs-o (ws3 .0) (ws4 .0) $ move ! (2 ∷ 3 ∷ 4 ∷ []) $ back-again ! tt u8 ls-b ls-o ls-n ls (ws4 .1 .0) ls-room refl (λ l4-1.
