@@ -8,28 +8,26 @@ use native.Mathlib.Omega.{arith}
 use borrow.Author.Tests.{ne-eqb, eqb-true, not-true, ltb-false}
 use lib.Dec.{eqb, ltb}
 use lib.ListN.{take, drop}
-use Rattle.settings.specs.Answer.{Rule, _⇒_, judge}
+use Rattle.settings.specs.Answer.{Rule, _⇒_}
 use Rattle.settings.specs.Quorum.{lastHeight}
 use Rattle.blocks.specs.declared.Found.{Found}
 use Rattle.wire.specs.Fields.{kindOf}
-use Rattle.wire.specs.Fit.{All}
 use Rattle.wire.specs.Shape.{shapeRules}
 use Rattle.wire.specs.Content.{Content, vote, commit, certificate, timeout, proposal, block, release, byBlock, byTimeouts, content}
 use Rattle.codec.proofs.Order.{and-true}
 use Rattle.memory.specs.Leaders.{byList}
 use Rattle.protocol.specs.Work.{Work, n}
 use Rattle.protocol.specs.Refusals.{regionRules, refusals, nextBlock, proposeRules}
-use Rattle.protocol.specs.Contents.{given, tooLongRule, digestRule, recordDigestRule, rightBefore}
+use Rattle.protocol.specs.Contents.{given, tooLongRule, recordDigestRule, rightBefore, recordPlace, proposePlace, proposeDigestRule}
 use Rattle.protocol.specs.Calls.{_then_}
 use Rattle.protocol.proofs.Branch.{by-kind}
 use Rattle.codec.specs.Names.{sameBytes}
 use Rattle.digest.specs.Name.{tooLong, nameOf}
-use Rattle.refusals.specs.Number.{answerOf, firstOf, orElse, numbered}
+use Rattle.refusals.specs.Number.{firstOf, orElse}
 use Rattle.refusals.specs.Early.{earlyPropose}
-use Rattle.refusals.proofs.Numbers.{else-some, else-none}
 use Rattle.judge.specs.declared.Want.{Want}
 use Rattle.judge.specs.Late.{storeFull, latePropose}
-use Rattle.judge.specs.Contents.{digestNumber, recordDigestNumber, beforeRecordDigest, beforeProposeDigest, due, recordDue, proposeDue}
+use Rattle.judge.specs.Contents.{digestNumber, recordDigestNumber, lengthDue, beforeRecordDigest, beforeProposeDigest, due, recordDue}
 
 -- beside another kind than 7 and 8 nothing is asked
 pub digest-none : (r s : List ℕ) → (kindOf r ≡ 7 → ⊥) → (kindOf r ≡ 8 → ⊥) → 0 ≡ recordDigestNumber (content r) s
@@ -108,11 +106,11 @@ module _ (before : ℕ → Bool) (two : before 2 ≡ true) (k : ℕ) (t : Bool) 
       go false e true = sym (ne-eqb k 2 (λ z. true≢false (sym two ∙ ap before (sym z) ∙ e)))
 
   both-due : (s : List ℕ) → orElse (cond (isTwo withDigest) 0 (cond (tooLong s) 16 0)) withDigest ≡ orElse (due before k s (cond t 17 0)) k
-  unfolding orElse
+  unfolding orElse lengthDue
   both-due s = ap (λ (u : Bool). orElse (cond u 0 (cond (tooLong s) 16 0)) withDigest) same-two ∙ go (isTwo k) refl (tooLong s)
     where
-      go : (u : Bool) → isTwo k ≡ u → (l : Bool) → orElse (cond u 0 (cond l 16 0)) withDigest ≡ orElse (cond u 0 (cond l 16 (cond (before k) 0 (cond t 17 0)))) k
-      go true e l = ap (λ (i : ℕ). orElse (cond (before i) 0 (cond t 17 0)) i) (eqb-true k 2 e) ∙ rw two (sym (eqb-true k 2 e))
+      go : (u : Bool) → isTwo k ≡ u → (l : Bool) → orElse (cond u 0 (cond l 16 0)) withDigest ≡ orElse (cond (not u && l) 16 (cond (before k) 0 (cond t 17 0))) k
+      go true e l = refl
       go false e true = refl
       go false e false = refl
 
@@ -135,7 +133,7 @@ module _ (W : Work) (room : ℕ) (r s : List ℕ) where
   plainRules q = regionRules W room then shapeRules (n W) r then refusals W byList r q
 
   abbrev behindLength : Content → List Rule
-  behindLength q = shapeRules (n W) r then rightBefore 10 (recordDigestRule W q (given s)) (refusals W byList r q)
+  behindLength q = shapeRules (n W) r then rightBefore recordPlace (recordDigestRule W q (given s)) (refusals W byList r q)
 
   -- 2 alone stands before 16
   none-two : (q : Content) → Behind isTwo (behindLength q)
@@ -189,13 +187,13 @@ module _ (W : Work) (room : ℕ) (x s : List ℕ) where
   abbrev pub test : Bool
   test = not (sameBytes x (nameOf (nextBlock W x .parent) (nextBlock W x .height .0) s))
 
-  propose-digest : firstOf (regionRules W room ++ rightBefore 14 (digestRule (nextBlock W x) (given s)) (proposeRules W byList x))
+  propose-digest : firstOf (regionRules W room ++ rightBefore proposePlace (proposeDigestRule W x (given s)) (proposeRules W byList x))
       ≡ orElse (cond (beforeProposeDigest (firstOf proposePlain)) 0 (cond test 17 0)) (firstOf proposePlain)
   unfolding each regionRules proposeRules rightBefore beforeProposeDigest
   propose-digest =
       between beforeProposeDigest (regionRules W room ++ take 5 (proposeRules W byList x)) (drop 5 (proposeRules W byList x)) test 17 refl (λ z. omega arith) refl refl
 
-  pub propose-with : firstOf (regionRules W room then tooLongRule (given s) then rightBefore 14 (digestRule (nextBlock W x) (given s)) (proposeRules W byList x))
+  pub propose-with : firstOf (regionRules W room then tooLongRule (given s) then rightBefore proposePlace (proposeDigestRule W x (given s)) (proposeRules W byList x))
       ≡ orElse (due beforeProposeDigest (firstOf proposePlain) s (cond test 17 0)) (firstOf proposePlain)
   unfolding each regionRules proposeRules rightBefore beforeProposeDigest
   propose-with = places beforeProposeDigest refl (firstOf proposePlain) test (regionRules W room) _ s refl refl propose-digest

@@ -3,14 +3,14 @@ use mathlib.Core.Path.{_≡_, refl, ap}
 use mathlib.Core.Bool.{Bool, true, false, cond, not, _&&_, _||_}
 use mathlib.Core.List.{List, _∷_, _++_}
 use Prim.Native.Nat.{ℕ, suc}
-use borrow.Author.Tests.{ne-eqb, eq-eqb}
+use borrow.Author.Tests.{eq-eqb}
 use lib.Dec.{eqb, ltb}
 use Rattle.settings.specs.Answer.{Rule, _⇒_, judge}
 use Rattle.settings.specs.Quorum.{lastHeight}
 use Rattle.codec.specs.Names.{sameBytes}
 use Rattle.codec.proofs.Order.{same-refl, same-eq}
-use Rattle.wire.specs.Fields.{kindOf, senderOf, viewOf, nameOf, releaseHeightOf}
-use Rattle.wire.specs.Content.{byBlock, byTimeouts, Content, vote, commit, certificate, timeout, proposal, block, release, timeoutOf, certificateOf, content}
+use Rattle.wire.specs.Fields.{kindOf}
+use Rattle.wire.specs.Content.{byBlock, byTimeouts, Content, vote, commit, certificate, timeout, proposal, block, release, certificateOf, content}
 use Rattle.blocks.specs.declared.Found.{Found}
 use Rattle.memory.specs.Layout.{entryOf}
 use Rattle.memory.specs.Leaders.{byList}

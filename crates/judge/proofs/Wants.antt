@@ -1,14 +1,13 @@
 -- What a call wants, one place after another. Assumes nothing.
 use mathlib.Core.Path.{_≡_, refl, sym, _∙_}
-use mathlib.Core.Bool.{Bool, true, false, cond}
+use mathlib.Core.Bool.{true}
 use mathlib.Core.List.{List, [], _++_}
 use Prim.Native.Nat.{ℕ}
 use borrow.Author.Tests.{ne-eqb}
-use lib.Dec.{eqb}
 use Rattle.settings.specs.Answer.{Rule}
-use Rattle.wire.specs.Fields.{kindOf, senderOf, viewOf, nameOf, releaseHeightOf}
+use Rattle.wire.specs.Fields.{kindOf}
 use Rattle.wire.specs.Shape.{shapeRules}
-use Rattle.wire.specs.Content.{byBlock, byTimeouts, Content, vote, commit, certificate, timeout, proposal, block, release, timeoutOf, certificateOf, content}
+use Rattle.wire.specs.Content.{byBlock, byTimeouts, Content, vote, commit, certificate, timeout, proposal, block, release, certificateOf, content}
 use Rattle.blocks.specs.declared.Block.{Block}
 use Rattle.memory.specs.Layout.{entryOf}
 use Rattle.counters.specs.declared.Counters.{Counters}

@@ -1,7 +1,7 @@
 -- THE WHOLE JUDGEMENT of each call: what the code finds in two steps is the answer of the lists in `protocol` (01: Refusals, by place, in this
 -- order). `early-late` says it of the table from 6 on; `record-judged`, `propose-judged` and `timer-judged` of the calls. Assumes nothing.
 use mathlib.Core.Path.{_≡_, refl, sym, ap, _∙_}
-use mathlib.Core.Bool.{Bool, true, false, cond, true≢false}
+use mathlib.Core.Bool.{true, false, cond, true≢false}
 use mathlib.Core.List.{List, [], _++_, append-assoc}
 use Prim.Native.Nat.{ℕ, zero, suc, _<_}
 use native.Mathlib.Omega.{arith}
@@ -14,10 +14,10 @@ use Rattle.wire.specs.Content.{Content, vote, commit, certificate, timeout, pro
 use Rattle.memory.specs.Layout.{entryOf}
 use Rattle.memory.specs.Leaders.{byList}
 use Rattle.protocol.specs.Work.{Work, n}
-use Rattle.protocol.specs.Refusals.{regionRules, refusals, timerRules, nextBlock, proposeRules}
+use Rattle.protocol.specs.Refusals.{regionRules, refusals, timerRules, proposeRules}
 use Rattle.protocol.specs.Events.{onRecord, onTimer, onPropose}
 use Rattle.protocol.specs.Rules.{settle}
-use Rattle.protocol.specs.Contents.{given, tooLongRule, digestRule, recordDigestRule, rightBefore}
+use Rattle.protocol.specs.Contents.{given, tooLongRule, recordDigestRule, rightBefore, recordPlace, proposePlace, proposeDigestRule}
 use Rattle.protocol.specs.Calls.{_then_, Replica, begin, recordCore, timerCore, proposeCore, recordCoreWith, proposeCoreWith}
 use Rattle.refusals.specs.Number.{answerOf, firstOf, orElse, numbered}
 use Rattle.refusals.specs.Early.{earlyRules, earlyPropose}
@@ -148,7 +148,7 @@ module _ (W : Work) (room : ℕ) where
   abbrev pub recordNumberWith : List ℕ → List ℕ → ℕ
   recordNumberWith r s = let k = recordNumber r in orElse (recordDue k (content r) s) k
 
-  with-numbered : (r s : List ℕ) (q : Content) → numbered (tooLongRule (given s) then shapeRules (n W) r then rightBefore 10 (recordDigestRule W q (given s)) (refusals W byList r q)) ≡ true
+  with-numbered : (r s : List ℕ) (q : Content) → numbered (tooLongRule (given s) then shapeRules (n W) r then rightBefore recordPlace (recordDigestRule W q (given s)) (refusals W byList r q)) ≡ true
   unfolding numbered refusals rightBefore
   with-numbered r s (vote j v x) = refl
   with-numbered r s (commit j v x) = refl
@@ -160,7 +160,7 @@ module _ (W : Work) (room : ℕ) where
   with-numbered r s (release j v x h) = refl
 
   record-judged-with : {A : Type 0} (r s : List ℕ) (a : A)
-      → judge (regionRules W room then tooLongRule (given s) then shapeRules (n W) r then rightBefore 10 (recordDigestRule W (content r) (given s)) (refusals W byList r (content r))) a ≡ answerOf (recordNumberWith r s) a
+      → judge (regionRules W room then tooLongRule (given s) then shapeRules (n W) r then rightBefore recordPlace (recordDigestRule W (content r) (given s)) (refusals W byList r (content r))) a ≡ answerOf (recordNumberWith r s) a
   record-judged-with r s a =
       answer-first _ a (numbered-then _ _ (regions-numbered W room) (with-numbered r s (content r)))
       ∙ ap (λ (i : ℕ). answerOf i a) (record-with W room r s (content r) ∙ ap (λ (k : ℕ). orElse (recordDue k (content r) s) k) (record-number r))
@@ -261,12 +261,12 @@ module _ (W : Work) (room : ℕ) where
           let early : beforeProposeDigest (nameNumber x) ≡ true = ap beforeProposeDigest (number ∙ sym first) ∙ propose-early W room x s (λ q. some (sym first ∙ q)) in
           rw early
 
-  propose-with-numbered : (x s : List ℕ) → numbered (tooLongRule (given s) then rightBefore 14 (digestRule (nextBlock W x) (given s)) (proposeRules W byList x)) ≡ true
+  propose-with-numbered : (x s : List ℕ) → numbered (tooLongRule (given s) then rightBefore proposePlace (proposeDigestRule W x (given s)) (proposeRules W byList x)) ≡ true
   unfolding numbered proposeRules rightBefore
   propose-with-numbered x s = refl
 
   propose-judged-with : {A : Type 0} (x s : List ℕ) (a : A)
-      → judge (regionRules W room then tooLongRule (given s) then rightBefore 14 (digestRule (nextBlock W x) (given s)) (proposeRules W byList x)) a ≡ answerOf (nameNumberWith x s) a
+      → judge (regionRules W room then tooLongRule (given s) then rightBefore proposePlace (proposeDigestRule W x (given s)) (proposeRules W byList x)) a ≡ answerOf (nameNumberWith x s) a
   propose-judged-with x s a =
       answer-first _ a (numbered-then _ _ (regions-numbered W room) (propose-with-numbered x s))
       ∙ ap (λ (i : ℕ). answerOf i a)

@@ -31,9 +31,13 @@ beforeRecordDigest k = not (eqb k 0) && ltb k 10
 unfoldable pub beforeProposeDigest : ℕ → Bool
 beforeProposeDigest k = not (eqb k 0) && not (eqb k 14)
 
--- 16 "right after 2", and 17 where its place is reached
+-- 16 "right after 2"
+unfoldable pub lengthDue : ℕ → List ℕ → Bool
+lengthDue k s = not (eqb k 2) && tooLong s
+
+-- and 17 where its place is reached
 abbrev pub due : (ℕ → Bool) → ℕ → List ℕ → ℕ → ℕ
-due before k s digest = cond (eqb k 2) 0 (cond (tooLong s) 16 (cond (before k) 0 digest))
+due before k s digest = cond (lengthDue k s) 16 (cond (before k) 0 digest)
 
 unfoldable pub recordDue : ℕ → Content → List ℕ → ℕ
 recordDue k q s = due beforeRecordDigest k s (recordDigestNumber q s)

@@ -18,7 +18,7 @@ ghost use Rattle.codec.specs.Names.{sameBytes};
 ghost use Rattle.digest.specs.Name.{nameOf};
 ghost use Rattle.wire.specs.Shape.{badLength};
 ghost use Rattle.wire.specs.Content.{content};
-ghost use Rattle.judge.specs.Contents.{beforeRecordDigest, beforeProposeDigest, digestNumber, recordDigestNumber, nextChild, recordDue, proposeDue};
+ghost use Rattle.judge.specs.Contents.{lengthDue, beforeRecordDigest, beforeProposeDigest, digestNumber, recordDigestNumber, nextChild, recordDue, proposeDue};
 
 // The name isn't the digest: 17, or 0.
 fn digest_number(b: Child, contents: &[u8]) -> u64
@@ -47,7 +47,17 @@ fn record_digest_number(rec: &[u8], contents: &[u8]) -> u64
     0
 }
 
-// A refusal of a record whose place is before 17's, which is right before 10: 3 to 9. By 2 the call has ended before.
+// 16, whose place is right after 2.
+fn length_due(number: u64, contents: &[u8]) -> bool
+    ensures { λ r. ⌜ r ≡ lengthDue number (now (contents .entry)) ⌝ }
+{
+    if number == 2 {
+        return false;
+    }
+    too_long(contents)
+}
+
+// A refusal of a record whose place is before 17's, which is right before 10: 2 to 9.
 fn before_record_digest(number: u64) -> bool
     ensures { λ r. ⌜ r ≡ beforeRecordDigest number ⌝ }
 {
@@ -72,10 +82,7 @@ pub fn record_due(number: u64, rec: &[u8], contents: &[u8]) -> u64
     requires { ⌜ (beforeRecordDigest number ≡ false → badLength (now rec) ≡ false) ⌝ }
     ensures { λ r. ⌜ r ≡ recordDue number (content (now (rec .entry))) (now (contents .entry)) ⌝ }
 {
-    if number == 2 {
-        return 0;
-    }
-    if too_long(contents) {
+    if length_due(number, contents) {
         return 16;
     }
     if before_record_digest(number) {
@@ -103,10 +110,7 @@ pub fn propose_due(number: u64, name: [u8; 32], want: Want, under: Found, conten
     requires { ⌜ (beforeProposeDigest number ≡ false → under .block .height .0 < lastHeight) ⌝ }
     ensures { λ r. ⌜ r ≡ proposeDue number name want under (now (contents .entry)) ⌝ }
 {
-    if number == 2 {
-        return 0;
-    }
-    if too_long(contents) {
+    if length_due(number, contents) {
         return 16;
     }
     if before_propose_digest(number) {

@@ -21,7 +21,7 @@ use Rattle.counters.specs.declared.Counters.{Counters}
 use Rattle.counters.specs.Counters.{opened}
 use Rattle.protocol.specs.Work.{Work, n}
 use Rattle.protocol.specs.Refusals.{storeLength, regionRules, refusals, timerRules, nextBlock, proposeRules}
-use Rattle.protocol.specs.Contents.{Contents, tooLongRule, digestRule, recordDigestRule, rightBefore}
+use Rattle.protocol.specs.Contents.{Contents, tooLongRule, digestRule, recordDigestRule, rightBefore, recordPlace, proposePlace, proposeDigestRule}
 use Rattle.protocol.specs.Events.{onRecord, onTimer, onPropose}
 use Rattle.protocol.specs.Rules.{settle}
 
@@ -58,13 +58,13 @@ module _ (lead : Leading) (r : Replica) (room : ℕ) where
   abbrev pub recordRefusalsWith : List ℕ → Contents → List Rule
   recordRefusalsWith bytes c =
       let W = begin r in
-      regionRules W room then tooLongRule c then shapeRules (n W) bytes then rightBefore 10 (recordDigestRule W (content bytes) c) (refusals W lead bytes (content bytes))
+      regionRules W room then tooLongRule c then shapeRules (n W) bytes then rightBefore recordPlace (recordDigestRule W (content bytes) c) (refusals W lead bytes (content bytes))
 
   unfoldable pub recordCoreWith : List ℕ → Contents → Answer Work
   recordCoreWith bytes c = judge (recordRefusalsWith bytes c) (settle (onRecord bytes (content bytes) (begin r)))
 
   abbrev pub proposeRefusalsWith : List ℕ → Contents → List Rule
-  proposeRefusalsWith x c = let W = begin r in regionRules W room then tooLongRule c then rightBefore 14 (digestRule (nextBlock W x) c) (proposeRules W lead x)
+  proposeRefusalsWith x c = let W = begin r in regionRules W room then tooLongRule c then rightBefore proposePlace (proposeDigestRule W x c) (proposeRules W lead x)
 
   unfoldable pub proposeCoreWith : List ℕ → Contents → Answer Work
   proposeCoreWith x c = judge (proposeRefusalsWith x c) (settle (onPropose x (begin r)))

@@ -9,7 +9,7 @@ use Rattle.digest.specs.Name.{nameOf, tooLong}
 use Rattle.wire.specs.Content.{Content, vote, commit, certificate, timeout, proposal, block, release}
 use Rattle.blocks.specs.declared.Block.{Block}
 use Rattle.protocol.specs.Work.{Work}
-use Rattle.protocol.specs.Refusals.{child}
+use Rattle.protocol.specs.Refusals.{child, nextBlock}
 
 -- "A block, a proposal or a propose call may come with its contents in a second region". Present and empty is not absent
 pub data Contents : Type 0 where
@@ -36,7 +36,18 @@ recordDigestRule W (proposal j v x y h k) c = digestRule (child W x y h) c
 recordDigestRule W (block j x y h) c = digestRule (child W x y h) c
 recordDigestRule W (release j v x h) c = []
 
--- "right before 10 (propose: before 14)": some rules stand in front of the first one of that number
+-- of propose: "with the safe block and its height plus 1"
+abbrev pub proposeDigestRule : Work → List ℕ → Contents → List Rule
+proposeDigestRule W x c = digestRule (nextBlock W x) c
+
+-- "right before 10 (propose: before 14)"
+abbrev pub recordPlace : ℕ
+recordPlace = 10
+
+abbrev pub proposePlace : ℕ
+proposePlace = 14
+
+-- some rules stand in front of the first one of that number
 unfoldable pub rightBefore : ℕ → List Rule → List Rule → List Rule
 rightBefore a new [] = new
 rightBefore a new (r ∷ rules) = cond (eqb (r .number) a) (new ++ (r ∷ rules)) (r ∷ rightBefore a new rules)

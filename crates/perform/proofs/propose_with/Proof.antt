@@ -1,16 +1,8 @@
 use Rattle.perform.proofs.Checking.{propose-due-height, propose-due-refused, propose-due-passed}
 use Rattle.perform.proofs.Completing.{ended, went-on}
 use borrow.Author.Needs.{needs}
-use native.Mathlib.Omega.{arith}
 use Rattle.perform.proofs.propose_with.Statement.{statement}
 use Rattle.perform.proofs.propose_with.Tie as tie
-use Rattle.perform.proofs.propose_with.Reads as reads
-use Rattle.perform.proofs.propose_with.Lts as lts
-use Rattle.judge.proofs.chain.propose_number.Reads as propose-number-reads
-use Rattle.judge.proofs.contents.propose_due.Reads as propose-due-reads
-use Rattle.perform.proofs.ends.Reads as ends-reads
-use Rattle.perform.proofs.propose.Reads as propose-reads
-use Rattle.perform.proofs.refused.Reads as refused-reads
 
 propose-number-requires : tie.Need-propose-number-requires
 propose-number-requires c κs = search needs

@@ -2,16 +2,8 @@ use Rattle.perform.proofs.Deciding.{record-shaped}
 use Rattle.perform.proofs.Checking.{record-due-whole, record-due-refused, record-due-passed}
 use Rattle.perform.proofs.Completing.{ended, went-on}
 use borrow.Author.Needs.{needs}
-use native.Mathlib.Omega.{arith}
 use Rattle.perform.proofs.record_with.Statement.{statement}
 use Rattle.perform.proofs.record_with.Tie as tie
-use Rattle.perform.proofs.record_with.Reads as reads
-use Rattle.perform.proofs.record_with.Lts as lts
-use Rattle.judge.proofs.chain.record_number.Reads as record-number-reads
-use Rattle.judge.proofs.contents.record_due.Reads as record-due-reads
-use Rattle.perform.proofs.ends.Reads as ends-reads
-use Rattle.perform.proofs.record.Reads as record-reads
-use Rattle.perform.proofs.refused.Reads as refused-reads
 
 record-number-requires : tie.Need-record-number-requires
 record-number-requires c κs = λ e. record-shaped (c .before .before .before .before .args .c) _ _ _ (c .before .before .before .before .args .want) (c .before .before .before .before .args .found) (c .before .before .before .before .args .under) (c .before .before .before .before .pre) e

@@ -22,7 +22,7 @@ use Rattle.protocol.specs.Work.{Work, n}
 use Rattle.protocol.specs.Refusals.{regionRules, refusals, nextBlock, proposeRules}
 use Rattle.protocol.specs.Rules.{settle}
 use Rattle.protocol.specs.Events.{onRecord, onPropose}
-use Rattle.protocol.specs.Contents.{tooLongRule, digestRule, recordDigestRule, rightBefore}
+use Rattle.protocol.specs.Contents.{tooLongRule, digestRule, recordDigestRule, rightBefore, recordPlace, proposePlace, proposeDigestRule}
 use Rattle.protocol.specs.Calls.{Replica, begin, _then_, lengthRules, recordCoreWith, proposeCoreWith, openingCore, Outcome, outcome, recordCallWith, proposeCallWith}
 use Rattle.protocol.specs.OneCall.{Call, receive, timer, propose, callOn, left, Handing, HandingTyped, outcomes}
 use Rattle.protocol.specs.AsBefore.{openedWith, OpensAsBefore, CallsAsBefore}
@@ -75,12 +75,12 @@ unfolding recordCallWith recordCoreWith proposeCallWith proposeCoreWith
 call-as-before r output (receive bytes c) e =
     let W = begin r in
     let digest = recordDigestRule W (content bytes) c in
-    ap (λ (l : List Rule). outcome r output (judge (regionRules W (length output) then tooLongRule c then shapeRules (n W) bytes then rightBefore 10 digest l) (settle (onRecord bytes (content bytes) W))))
+    ap (λ (l : List Rule). outcome r output (judge (regionRules W (length output) then tooLongRule c then shapeRules (n W) bytes then rightBefore recordPlace digest l) (settle (onRecord bytes (content bytes) W))))
     (refusals-same r e bytes (content bytes))
 call-as-before r output (timer v) e = refl
 call-as-before r output (propose x c) e =
     let W = begin r in
-    ap (λ (l : List Rule). outcome r output (judge (regionRules W (length output) then tooLongRule c then rightBefore 14 (digestRule (nextBlock W x) c) l) (settle (onPropose x W)))) (propose-same r e x)
+    ap (λ (l : List Rule). outcome r output (judge (regionRules W (length output) then tooLongRule c then rightBefore proposePlace (proposeDigestRule W x c) l) (settle (onPropose x W)))) (propose-same r e x)
 
 calls-led : (r : Replica) (ts : List Handing) → All HandingTyped ts → RegularReplica r → Led r → outcomes byList r ts ≡ outcomes roundRobin r ts
 unfolding outcomes All

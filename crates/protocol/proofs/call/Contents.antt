@@ -15,7 +15,7 @@ use Rattle.protocol.specs.Work.{Work, n}
 use Rattle.protocol.specs.Refusals.{regionRules, refusals, nextBlock, proposeRules}
 use Rattle.protocol.specs.Events.{onRecord, onPropose}
 use Rattle.protocol.specs.Rules.{settle}
-use Rattle.protocol.specs.Contents.{Contents, none, tooLongRule, digestRule, recordDigestRule, rightBefore}
+use Rattle.protocol.specs.Contents.{Contents, none, tooLongRule, digestRule, recordDigestRule, rightBefore, recordPlace, proposePlace, proposeDigestRule}
 use Rattle.protocol.specs.Calls.{Replica, begin, _then_, recordRefusals, recordCore, proposeRefusals, proposeCore, recordRefusalsWith, proposeRefusalsWith, recordCoreWith, proposeCoreWith, outcome, recordCall, proposeCall, recordCallWith, proposeCallWith}
 use Rattle.protocol.specs.AsBefore.{RecordAsBefore, ProposeAsBefore}
 use Rattle.protocol.proofs.Branch.{by-cases}
@@ -46,13 +46,13 @@ record-as-before lead r output bytes =
     let W = begin r in
     let rules = refusals W lead bytes (content bytes) in
     ap (λ (l : List Rule). outcome r output (judge (regionRules W (length output) then shapeRules (n W) bytes then l) (settle (onRecord bytes (content bytes) W))))
-    (ap (λ (l : List Rule). rightBefore 10 l rules) (no-rule W (content bytes)) ∙ nothing-before 10 rules)
+    (ap (λ (l : List Rule). rightBefore recordPlace l rules) (no-rule W (content bytes)) ∙ nothing-before recordPlace rules)
 
 pub propose-as-before : ProposeAsBefore
 unfolding proposeCall proposeCore proposeCallWith proposeCoreWith
 propose-as-before lead r output x =
     let W = begin r in
-    ap (λ (l : List Rule). outcome r output (judge (regionRules W (length output) then l) (settle (onPropose x W)))) (nothing-before 14 (proposeRules W lead x))
+    ap (λ (l : List Rule). outcome r output (judge (regionRules W (length output) then l) (settle (onPropose x W)))) (nothing-before proposePlace (proposeRules W lead x))
 
 -- ---- no rule applies
 pub quiet-append : (a b : List Rule) → Quiet (a ++ b) → Quiet a × Quiet b
@@ -105,8 +105,8 @@ module _ (lead : Leading) (r : Replica) (room : ℕ) (bytes : List ℕ) (c : Con
       let j = off-judge (recordRefusalsWith lead r room bytes c) _ W .0 e in
       let a = quiet-append regions _ (j .0) in
       let b = quiet-append (tooLongRule c) _ (a .1) in
-      let d = quiet-append shape (rightBefore 10 digest rules) (b .1) in
-      let f = quiet-before 10 digest rules (d .1) in
+      let d = quiet-append shape (rightBefore recordPlace digest rules) (b .1) in
+      let f = quiet-before recordPlace digest rules (d .1) in
       record { short = b .0; named = f .0; accepted = off-judge (recordRefusals lead r room bytes) _ W .1 (quiet-both regions (shape ++ rules) (a .0) (quiet-both shape rules (d .0) (f .1)), j .1) }
 
   pub checked-record : RecordChecked → recordCoreWith lead r room bytes c ≡ accepts W
@@ -115,7 +115,7 @@ module _ (lead : Leading) (r : Replica) (room : ℕ) (bytes : List ℕ) (c : Con
       let j = off-judge (recordRefusals lead r room bytes) _ W .0 (h .accepted) in
       let a = quiet-append regions _ (j .0) in
       let d = quiet-append shape rules (a .1) in
-      let late = quiet-both shape (rightBefore 10 digest rules) (d .0) (before-quiet 10 digest rules (h .named) (d .1)) in
+      let late = quiet-both shape (rightBefore recordPlace digest rules) (d .0) (before-quiet recordPlace digest rules (h .named) (d .1)) in
       off-judge (recordRefusalsWith lead r room bytes c) _ W .1 (quiet-both regions _ (a .0) (quiet-both (tooLongRule c) _ (h .short) late), j .1)
 
 module _ (lead : Leading) (r : Replica) (room : ℕ) (x : List ℕ) (c : Contents) (W : Work) where
@@ -126,7 +126,7 @@ module _ (lead : Leading) (r : Replica) (room : ℕ) (x : List ℕ) (c : Content
   rules′ = proposeRules (begin r) lead x
 
   abbrev digest′ : List Rule
-  digest′ = digestRule (nextBlock (begin r) x) c
+  digest′ = proposeDigestRule (begin r) x c
 
   abbrev ProposeChecked : Type 0
   ProposeChecked = Checked c digest′ (proposeCore lead r room x) W
@@ -136,8 +136,8 @@ module _ (lead : Leading) (r : Replica) (room : ℕ) (x : List ℕ) (c : Content
   propose-checked e =
       let j = off-judge (proposeRefusalsWith lead r room x c) _ W .0 e in
       let a = quiet-append regions′ _ (j .0) in
-      let b = quiet-append (tooLongRule c) (rightBefore 14 digest′ rules′) (a .1) in
-      let f = quiet-before 14 digest′ rules′ (b .1) in
+      let b = quiet-append (tooLongRule c) (rightBefore proposePlace digest′ rules′) (a .1) in
+      let f = quiet-before proposePlace digest′ rules′ (b .1) in
       record { short = b .0; named = f .0; accepted = off-judge (proposeRefusals lead r room x) _ W .1 (quiet-both regions′ rules′ (a .0) (f .1), j .1) }
 
   pub checked-propose : ProposeChecked → proposeCoreWith lead r room x c ≡ accepts W
@@ -145,5 +145,5 @@ module _ (lead : Leading) (r : Replica) (room : ℕ) (x : List ℕ) (c : Content
   checked-propose h =
       let j = off-judge (proposeRefusals lead r room x) _ W .0 (h .accepted) in
       let a = quiet-append regions′ rules′ (j .0) in
-      let late = quiet-both (tooLongRule c) (rightBefore 14 digest′ rules′) (h .short) (before-quiet 14 digest′ rules′ (h .named) (a .1)) in
+      let late = quiet-both (tooLongRule c) (rightBefore proposePlace digest′ rules′) (h .short) (before-quiet proposePlace digest′ rules′ (h .named) (a .1)) in
       off-judge (proposeRefusalsWith lead r room x c) _ W .1 (quiet-both regions′ _ (a .0) late, j .1)

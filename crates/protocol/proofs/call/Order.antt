@@ -14,7 +14,7 @@ use Rattle.wire.specs.Shape.{shapeRules, certificateKindBad, badKind}
 use Rattle.memory.specs.Leaders.{Leading}
 use Rattle.protocol.specs.Work.{n}
 use Rattle.protocol.specs.Refusals.{regionRules, refusals, timerRules, proposeRules}
-use Rattle.protocol.specs.Contents.{Contents, none, given, tooLongRule, recordDigestRule, rightBefore}
+use Rattle.protocol.specs.Contents.{Contents, none, given, tooLongRule, recordDigestRule, rightBefore, recordPlace}
 use Rattle.protocol.specs.Calls.{Replica, begin, _then_, timerRefusals, recordRefusalsWith, proposeRefusalsWith, openingRefusals}
 use Rattle.protocol.specs.OneCall.{openingOrder, recordOrder, timerOrder, proposeOrder, place, inOrder, InOrder}
 use Rattle.protocol.proofs.Branch.{by-kind}
@@ -37,7 +37,7 @@ propose-in-order lead r room x (given s) = refl
 abbrev Whole : Leading → Replica → ℕ → List ℕ → Contents → Content → Type 0
 Whole lead r room bytes c q =
     let W = begin r in
-    InOrder recordOrder (regionRules W room then tooLongRule c then shapeRules (n W) bytes then rightBefore 10 (recordDigestRule W q c) (refusals W lead bytes q))
+    InOrder recordOrder (regionRules W room then tooLongRule c then shapeRules (n W) bytes then rightBefore recordPlace (recordDigestRule W q c) (refusals W lead bytes q))
 
 -- a record of any kind but 9, whatever else its bytes are, with contents of any length, or with none
 pub record-in-order : (lead : Leading) (r : Replica) (room : ℕ) (bytes : List ℕ) (c : Contents) → (kindOf bytes ≡ 9 → ⊥) → InOrder recordOrder (recordRefusalsWith lead r room bytes c)

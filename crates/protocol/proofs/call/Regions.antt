@@ -19,7 +19,7 @@ use Rattle.memory.specs.Leaders.{Leading, byList}
 use Rattle.protocol.specs.Work.{Work, n}
 use Rattle.protocol.specs.Typed.{BlockTyped}
 use Rattle.protocol.specs.Refusals.{outputLength, regionRules, child, refusals, timerRules, nextBlock, proposeRules}
-use Rattle.protocol.specs.Contents.{Contents, none, given, tooLongRule, digestRule, recordDigestRule, rightBefore}
+use Rattle.protocol.specs.Contents.{Contents, none, given, tooLongRule, digestRule, recordDigestRule, rightBefore, recordPlace, proposePlace}
 use Rattle.protocol.specs.Calls.{Replica, begin, timerCore, recordCoreWith, proposeCoreWith, Outcome, outcome, openingCall, _then_}
 use Rattle.protocol.specs.OneCall.{Call, receive, timer, propose, callOn, left, Passes, Handing, HandingTyped, after}
 use Rattle.protocol.proofs.Branch.{by-cases}
@@ -109,12 +109,12 @@ core-never : (r : Replica) (room : ℕ) (c : Call) → RegularReplica r → outp
 unfolding coreOf recordCoreWith timerCore proposeCoreWith
 core-never r room (receive bytes c) R h e =
     let W = begin r in
-    let late = before-other 2 10 _ _ (record-digest-other W (content bytes) c) (refusals-other W byList bytes (content bytes)) in
+    let late = before-other 2 recordPlace _ _ (record-digest-other W (content bytes) c) (refusals-other W byList bytes (content bytes)) in
     judge-quiet _ 2 (regionRules W room) _ (regular-regions W room R h) (other-append 2 (tooLongRule c) _ (too-long-other c) (other-append 2 (shapeRules (n W) bytes) _ (shape-other (n W) bytes) late)) e
 core-never r room (timer v) R h e = judge-quiet _ 2 (regionRules (begin r) room) _ (regular-regions (begin r) room R h) (timer-other (begin r) v) e
 core-never r room (propose x c) R h e =
     let W = begin r in
-    let late = before-other 2 14 _ _ (digest-other (nextBlock W x) c) (propose-other W byList x) in
+    let late = before-other 2 proposePlace _ _ (digest-other (nextBlock W x) c) (propose-other W byList x) in
     judge-quiet _ 2 (regionRules W room) _ (regular-regions W room R h) (other-append 2 (tooLongRule c) _ (too-long-other c) late) e
 
 pub never-two : (r : Replica) (output : List ℕ) (c : Call) → RegularReplica r → outputLength ≤ length output → callOn byList r output c .reply ≡ refuses 2 → ⊥

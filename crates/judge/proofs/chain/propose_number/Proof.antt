@@ -1,12 +1,8 @@
 use mathlib.Core.Path.{sym, _∙_}
 use Rattle.refusals.proofs.Numbers.{else-some, else-none}
 use borrow.Author.Needs.{needs}
-use native.Mathlib.Omega.{arith}
 use Rattle.judge.proofs.chain.propose_number.Statement.{statement}
 use Rattle.judge.proofs.chain.propose_number.Tie as tie
-use Rattle.judge.proofs.chain.propose_number.Reads as reads
-use Rattle.judge.proofs.chain.propose_number.Lts as lts
-use Rattle.judge.proofs.chain.propose_chain.Reads as propose-chain-reads
 
 returns : tie.Need-returns
 returns c = sym (else-some _ _ (c .if1 .taken))

@@ -1,11 +1,7 @@
 use borrow.Author.Tests.{ne-eqb}
 use Rattle.judge.specs.Contents.{beforeProposeDigest}
-use borrow.Author.Needs.{needs}
-use native.Mathlib.Omega.{arith}
 use Rattle.judge.proofs.contents.before_propose_digest.Statement.{statement}
 use Rattle.judge.proofs.contents.before_propose_digest.Tie as tie
-use Rattle.judge.proofs.contents.before_propose_digest.Reads as reads
-use Rattle.judge.proofs.contents.before_propose_digest.Lts as lts
 
 returns : tie.Need-returns
 unfolding beforeProposeDigest

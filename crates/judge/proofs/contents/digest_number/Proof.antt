@@ -1,12 +1,7 @@
 use Rattle.judge.specs.Contents.{digestNumber}
 use borrow.Author.Needs.{needs}
-use native.Mathlib.Omega.{arith}
 use Rattle.judge.proofs.contents.digest_number.Statement.{statement}
 use Rattle.judge.proofs.contents.digest_number.Tie as tie
-use Rattle.judge.proofs.contents.digest_number.Reads as reads
-use Rattle.judge.proofs.contents.digest_number.Lts as lts
-use Rattle.codec.proofs.name.same.Reads as same-reads
-use Rattle.digest.proofs.name_of.Reads as name-of-reads
 
 name-of-requires : tie.Need-name-of-requires
 name-of-requires c κs = search needs

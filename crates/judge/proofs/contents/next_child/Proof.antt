@@ -5,8 +5,6 @@ use borrow.Author.Needs.{needs}
 use native.Mathlib.Omega.{arith}
 use Rattle.judge.proofs.contents.next_child.Statement.{statement}
 use Rattle.judge.proofs.contents.next_child.Tie as tie
-use Rattle.judge.proofs.contents.next_child.Reads as reads
-use Rattle.judge.proofs.contents.next_child.Lts as lts
 
 add-t6 : tie.Need-add-t6
 add-t6 c = search needs

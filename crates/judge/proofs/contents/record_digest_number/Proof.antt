@@ -7,12 +7,6 @@ use borrow.Author.Needs.{needs}
 use native.Mathlib.Omega.{arith}
 use Rattle.judge.proofs.contents.record_digest_number.Statement.{statement}
 use Rattle.judge.proofs.contents.record_digest_number.Tie as tie
-use Rattle.judge.proofs.contents.record_digest_number.Reads as reads
-use Rattle.judge.proofs.contents.record_digest_number.Lts as lts
-use Rattle.codec.proofs.num.u16_at.Reads as u16-at-reads
-use Rattle.judge.proofs.contents.digest_number.Reads as digest-number-reads
-use Rattle.wire.proofs.read.block.Reads as block-reads
-use Rattle.wire.proofs.read.proposed.Reads as proposed-reads
 
 u16-at-requires : tie.Need-u16-at-requires
 u16-at-requires c κs = omega (arith, whole-header _ (c .before .before .pre))

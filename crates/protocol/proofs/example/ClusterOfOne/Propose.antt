@@ -31,7 +31,7 @@ use Rattle.protocol.specs.Work.{Work, n, blocks, send, release}
 use Rattle.protocol.specs.Refusals.{outputLength, regionRules, nextBlock, proposeRules}
 use Rattle.protocol.specs.Events.{onPropose}
 use Rattle.protocol.specs.Applies.{Turn, Turns, turn, rest, runC, runD, signersFor}
-use Rattle.protocol.specs.Contents.{given, digestRule}
+use Rattle.protocol.specs.Contents.{given, digestRule, proposeDigestRule}
 use Rattle.protocol.specs.Calls.{Replica, begin, proposeCore, outcome, proposeCall, proposeCallWith}
 use Rattle.protocol.specs.ClusterOfOne.{one, decided, Decides}
 use Rattle.protocol.proofs.call.Typing.{zero-is-name}
@@ -178,7 +178,7 @@ module _ (x : List ℕ) (name : IsName x) (proper : x ≡ zeroName → ⊥) (m :
   decides-alone = rw core decides-with
 
   -- with contents whose digest the name is, behind genesis
-  named : (s : List ℕ) → x ≡ nameOf zeroName 1 s → Quiet (digestRule (nextBlock (begin r) x) (given s))
+  named : (s : List ℕ) → x ≡ nameOf zeroName 1 s → Quiet (proposeDigestRule (begin r) x (given s))
   unfolding opened safeCertificate held sameBytes
   named s e = (rw genesis-read (ap not (ap (sameBytes x) (sym e) ∙ same-refl x)), tt)
 
