@@ -1,22 +1,15 @@
 {
     'fn': 'replica::hydrangea_record_with',
-    'like': 'hydrangea_calls',
+    'like': 'contents_calls',
     'params': ['cs', 'm', 'ys', 'out', 'rec', 'contents'],
     'callees': {
-        'judge::record': {'ens': '(s : List Block) → length s ≡ {2} → r ≡ recordWant (lent {0} {1} s) {3} {4}'},
-        'blocks::held': {'ens': 'r ≡ heldOf {2} (take {1} {0}) {3}'},
-        'perform::record_with': {'req': 'yes', 'ens': 'Performs (recordNumberWith (length {2}) {3} {7}) (onRecord {3} (content {3})) (RecordFound (length {2}) {3} {4} {5} {6}) {0} {1} {2} r {w1} {w2}'},
+        'replica::record_refusal': {'ens': '({w0} ≡ {0}) × ((s : List Block) → length s ≡ {2} → r ≡ recordDue (lent {0} {1} s) {3} {4} {5})'},
+        'replica::passes': {'ens': 'r ≡ eqb {0} 0'},
+        'replica::record_or': {'ens': 'replied r {w0} {w1} {w2} {w3} ≡ cond {5} (repliedBy (recordCall byList (lentTo {0} {1} {2}) {3} {4})) (repliedBy (outcome (lentTo {0} {1} {2}) {3} (refuses {6})))'},
     },
-    'asks': [
-        '(record { store = ys; given = record { want = e0 ys refl; found = e1; under = e2 } })',
-        '(concludes ys e3)',
-    ],
-    'says': [
-        '(record-with-is cs m out ys (ys-room .0) r3 _ _ r4 _ _ _ e4 r5 e5 rec contents r0 r1 r2 (record { want = e0 ys refl; found = e1; under = e2 }) e3)',
-    ],
+    'says': ['(record-with-is cs (ws0 .0) m out ys _ r0 r1 (e0 .0) e1 rec contents (e0 .1 ys refl) e2)'],
     'spec': {
-        'Rattle.blocks.specs.Store': ['held as heldOf'],
-        'Rattle.perform.specs.Perform': ['recordNumberWith'],
+        'Rattle.judge.specs.Contents': ['recordDue'],
         'Rattle.replica.proofs.Calling': ['record-with-is'],
     },
 }

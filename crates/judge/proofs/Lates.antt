@@ -1,7 +1,8 @@
 -- The lists of 01's table, cut where the store is first asked: the early part and then the late part judge as the whole. Assumes nothing.
 use mathlib.Core.Path.{_≡_, refl, ap}
 use mathlib.Core.Bool.{Bool, true, false, cond, not, _&&_, _||_}
-use mathlib.Core.List.{List, _∷_, _++_}
+use mathlib.Core.List.{List, [], _∷_, _++_}
+use lib.ListN.{take, drop}
 use Prim.Native.Nat.{ℕ, suc}
 use borrow.Author.Tests.{eq-eqb}
 use lib.Dec.{eqb, ltb}
@@ -18,10 +19,10 @@ use Rattle.protocol.specs.Work.{Work, heldBlock}
 use Rattle.protocol.specs.Refusals.{safeName, child, misplaced, refusals, proposeRules}
 use Rattle.protocol.proofs.Branch.{by-kind}
 use Rattle.refusals.specs.Number.{firstOf, numbered}
-use Rattle.refusals.specs.Early.{votedRules, proposalRules, earlyRules, earlyPropose}
+use Rattle.refusals.specs.Early.{votedRules, proposalFirst, proposalRules, earlyRules, earlyPropose}
 use Rattle.judge.specs.declared.Want.{Want}
 use Rattle.judge.specs.Want.{names, safeBlock, asked}
-use Rattle.judge.specs.Late.{childOf, sameFound, misplacedOn, storeFull, chainRules, lateRules, latePropose}
+use Rattle.judge.specs.Late.{childOf, sameFound, misplacedOn, storeFull, chainRules, lateRules, lateFirst, latePropose}
 
 -- a record of another kind than 7 and 8 asks nothing of the store
 pub late-none : (w : Want) (found under : Found) (r : List ℕ) → (kindOf r ≡ 7 → ⊥) → (kindOf r ≡ 8 → ⊥) → 0 ≡ firstOf (lateRules w found under (content r))
@@ -69,7 +70,7 @@ module _ (W : Work) where
   lateOf k = let w = asked (W .memory) k in lateRules w (heldBlock W (w .name)) (heldBlock W (w .base)) k
 
   pub early-late-number : (r : List ℕ) (k : Content) → firstOf (refusals W byList r k) ≡ firstOf (earlyRules W r k ++ lateOf k)
-  unfolding refusals earlyRules proposalRules votedRules asked lateRules chainRules sameFound misplacedOn storeFull
+  unfolding refusals earlyRules proposalFirst proposalRules votedRules asked lateRules chainRules sameFound misplacedOn storeFull
   early-late-number r (vote j v x) = refl
   early-late-number r (commit j v x) = refl
   early-late-number r (certificate j (byBlock v x g)) = refl
@@ -86,12 +87,22 @@ module _ (W : Work) where
   proposeLateOf x =
       let w = names (W .memory) x (safeBlock (W .memory) (certificateOf (entryOf (W .memory)))) in latePropose w (heldBlock W (w .name)) (heldBlock W (w .base))
 
-  pub propose-early-late-number : (x : List ℕ) → firstOf (proposeRules W byList x) ≡ firstOf (earlyPropose W x ++ proposeLateOf x)
-  unfolding proposeRules earlyPropose latePropose storeFull
-  propose-early-late-number x =
+  -- whatever follows 13
+  early-first-number : (x : List ℕ) (tail : List Rule) → firstOf (take 5 (proposeRules W byList x) ++ tail)
+      ≡ firstOf (earlyPropose W x ++ (lateFirst (heldBlock W x) (heldBlock W (safeBlock (W .memory) (certificateOf (entryOf (W .memory))))) ++ tail))
+  unfolding proposeRules earlyPropose lateFirst
+  early-first-number x tail =
       let u = heldBlock W (safeName W (certificateOf (entryOf (W .memory)))) in
       let h = suc (u .block .height .0) in
       same-rule _ _ _ (same-rule _ _ _ (same-rule _ _ _ (past-held (u .is) (ltb lastHeight h) h _)))
+
+  pub propose-first-number : (x : List ℕ) → firstOf (take 5 (proposeRules W byList x)) ≡ firstOf (earlyPropose W x ++ lateFirst (heldBlock W x) (heldBlock W (safeBlock (W .memory) (certificateOf (entryOf (W .memory))))))
+  unfolding proposeRules earlyPropose lateFirst
+  propose-first-number x = early-first-number x []
+
+  pub propose-early-late-number : (x : List ℕ) → firstOf (proposeRules W byList x) ≡ firstOf (earlyPropose W x ++ proposeLateOf x)
+  unfolding proposeRules earlyPropose latePropose lateFirst storeFull
+  propose-early-late-number x = early-first-number x (drop 5 (proposeRules W byList x))
 
   -- ---- no rule has the number of acceptance
   pub refusals-numbered : (r : List ℕ) (k : Content) → numbered (refusals W byList r k) ≡ true
@@ -106,7 +117,7 @@ module _ (W : Work) where
   refusals-numbered r (release j v x h) = refl
 
   pub early-numbered : (r : List ℕ) (k : Content) → numbered (earlyRules W r k) ≡ true
-  unfolding refusals earlyRules proposalRules votedRules numbered
+  unfolding refusals earlyRules proposalFirst proposalRules votedRules numbered
   early-numbered r (vote j v x) = refl
   early-numbered r (commit j v x) = refl
   early-numbered r (certificate j (byBlock v x g)) = refl
@@ -130,6 +141,10 @@ late-numbered w found under (proposal j v x y h k) = refl
 late-numbered w found under (block j x y h) = refl
 late-numbered w found under (release j v x h) = refl
 
+pub late-first-numbered : (found under : Found) → numbered (lateFirst found under) ≡ true
+unfolding lateFirst numbered
+late-first-numbered found under = refl
+
 pub late-propose-numbered : (w : Want) (found under : Found) → numbered (latePropose w found under) ≡ true
-unfolding latePropose numbered
+unfolding latePropose lateFirst numbered
 late-propose-numbered w found under = refl

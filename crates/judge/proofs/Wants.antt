@@ -1,10 +1,10 @@
 -- What a call wants, one place after another. Assumes nothing.
 use mathlib.Core.Path.{_≡_, refl, sym, _∙_}
-use mathlib.Core.Bool.{true}
+use mathlib.Core.Bool.{true, false}
 use mathlib.Core.List.{List, [], _++_}
 use Prim.Native.Nat.{ℕ}
 use borrow.Author.Tests.{ne-eqb}
-use Rattle.settings.specs.Answer.{Rule}
+use Rattle.settings.specs.Answer.{Rule, _⇒_}
 use Rattle.wire.specs.Fields.{kindOf}
 use Rattle.wire.specs.Shape.{shapeRules}
 use Rattle.wire.specs.Content.{byBlock, byTimeouts, Content, vote, commit, certificate, timeout, proposal, block, release, certificateOf, content}
@@ -15,14 +15,18 @@ use Rattle.protocol.specs.Work.{Work, n}
 use Rattle.protocol.specs.Refusals.{regionRules, refusals}
 use Rattle.protocol.proofs.Branch.{by-kind}
 use Rattle.refusals.specs.Number.{firstOf, numbered}
-use Rattle.refusals.specs.Early.{lent, earlyRules, proposalRules, votedRules, earlyPropose}
-use Rattle.refusals.proofs.Numbers.{first-then, else-some, else-none}
+use Rattle.refusals.specs.Early.{lent, earlyRules, proposalFirst, proposalRules, votedRules, earlyPropose}
+use Rattle.refusals.proofs.Numbers.{skip, hit, first-then, else-some, else-none}
 use Rattle.judge.specs.declared.Want.{Want}
 use Rattle.judge.specs.Want.{nothing, names, safeBlock, asked, wantOf, recordWant, proposeWant}
+use Rattle.judge.specs.Contents.{proposeWantWith}
+use Rattle.digest.specs.Name.{tooLong}
+use Rattle.protocol.specs.Contents.{given, tooLongRule}
+use native.Mathlib.Omega.{arith}
 
 -- ---- the early lists do not look at the store
 pub early-store : (c : Counters) (m : List ℕ) (s : List Block) (r : List ℕ) (k : Content) → earlyRules (lent c m []) r k ≡ earlyRules (lent c m s) r k
-unfolding earlyRules refusals proposalRules votedRules
+unfolding earlyRules refusals proposalFirst proposalRules votedRules
 early-store c m s r (vote j v x) = refl
 early-store c m s r (commit j v x) = refl
 early-store c m s r (certificate j (byBlock v x g)) = refl
@@ -98,6 +102,26 @@ module _ (W : Work) (room : ℕ) (x : List ℕ) where
       → w ≡ names (W .memory) x (safeBlock (W .memory) (certificateOf (entryOf (W .memory)))) → w ≡ proposeWant W room x
   unfolding proposeWant
   propose-asked p e h = h ∙ want-none _ _ (after _ _ (regions-numbered W room) p ∙ e)
+
+-- ---- propose with contents: 16 stands between
+module _ (W : Work) (room : ℕ) (x s : List ℕ) where
+  with-is : {k : ℕ} → k ≡ firstOf (regionRules W room ++ (tooLongRule (given s) ++ earlyPropose W x)) → (k ≡ 0 → ⊥) → nothing k ≡ proposeWantWith W room x s
+  unfolding proposeWantWith
+  with-is {k} e h = rw (← e) (want-some k _ h)
+
+  pub with-region : {k : ℕ} → k ≡ firstOf (regionRules W room) → (k ≡ 0 → ⊥) → nothing k ≡ proposeWantWith W room x s
+  with-region e h = with-is (before _ _ (regions-numbered W room) e h) h
+
+  pub with-length : firstOf (regionRules W room) ≡ 0 → tooLong s ≡ true → nothing 16 ≡ proposeWantWith W room x s
+  with-length p t = with-is (hit (tooLong s ⇒ 16) (earlyPropose W x) t ∙ sym (after _ _ (regions-numbered W room) p)) (λ z. omega arith)
+
+  pub with-early : {k : ℕ} → firstOf (regionRules W room) ≡ 0 → tooLong s ≡ false → k ≡ firstOf (earlyPropose W x) → (k ≡ 0 → ⊥) → nothing k ≡ proposeWantWith W room x s
+  with-early p t e h = with-is (skip (tooLong s ⇒ 16) (earlyPropose W x) t e ∙ sym (after _ _ (regions-numbered W room) p)) h
+
+  pub with-asked : {w : Want} → firstOf (regionRules W room) ≡ 0 → tooLong s ≡ false → firstOf (earlyPropose W x) ≡ 0
+      → w ≡ names (W .memory) x (safeBlock (W .memory) (certificateOf (entryOf (W .memory)))) → w ≡ proposeWantWith W room x s
+  unfolding proposeWantWith
+  with-asked p t e h = h ∙ want-none _ _ (after _ _ (regions-numbered W room) p ∙ sym (skip (tooLong s ⇒ 16) (earlyPropose W x) t (sym e)))
 
 -- ---- two lists, by number
 pub two-first : (W : Work) (room : ℕ) (b : List Rule) {k : ℕ} → k ≡ firstOf (regionRules W room) → (k ≡ 0 → ⊥) → k ≡ firstOf (regionRules W room ++ b)

@@ -1,14 +1,13 @@
 -- THE WHOLE JUDGEMENT of each call: what the code finds in two steps is the answer of the lists in `protocol` (01: Refusals, by place, in this
 -- order). `early-late` says it of the table from 6 on; `record-judged`, `propose-judged` and `timer-judged` of the calls. Assumes nothing.
 use mathlib.Core.Path.{_≡_, refl, sym, ap, _∙_}
-use mathlib.Core.Bool.{true, false, cond, true≢false}
-use mathlib.Core.List.{List, [], _++_, append-assoc}
-use Prim.Native.Nat.{ℕ, zero, suc, _<_}
+use mathlib.Core.Bool.{true, false, cond}
+use mathlib.Core.List.{List, _++_}
+use Prim.Native.Nat.{ℕ, zero, suc}
 use native.Mathlib.Omega.{arith}
 use borrow.Author.Tests.{ne-eqb}
-use Rattle.settings.specs.Answer.{Rule, judge}
-use Rattle.settings.specs.Quorum.{lastHeight}
-use Rattle.blocks.specs.declared.Found.{Found}
+use lib.Dec.{eqb}
+use Rattle.settings.specs.Answer.{Answer, refuses, Rule, judge}
 use Rattle.wire.specs.Shape.{shapeRules, badLength, badKind}
 use Rattle.wire.specs.Content.{Content, vote, commit, certificate, timeout, proposal, block, release, byBlock, byTimeouts, certificateOf, content}
 use Rattle.memory.specs.Layout.{entryOf}
@@ -17,17 +16,17 @@ use Rattle.protocol.specs.Work.{Work, n}
 use Rattle.protocol.specs.Refusals.{regionRules, refusals, timerRules, proposeRules}
 use Rattle.protocol.specs.Events.{onRecord, onTimer, onPropose}
 use Rattle.protocol.specs.Rules.{settle}
-use Rattle.protocol.specs.Contents.{given, tooLongRule, recordDigestRule, rightBefore, recordPlace, proposePlace, proposeDigestRule}
+use Rattle.protocol.specs.Contents.{given, tooLongRule, recordDigestRule, proposeDigestRule, rightBefore, recordPlace, proposePlace}
 use Rattle.protocol.specs.Calls.{_then_, Replica, begin, recordCore, timerCore, proposeCore, recordCoreWith, proposeCoreWith}
 use Rattle.refusals.specs.Number.{answerOf, firstOf, orElse, numbered}
 use Rattle.refusals.specs.Early.{earlyRules, earlyPropose}
-use Rattle.refusals.proofs.Numbers.{answer-first, first-then, numbered-then, else-some, else-none, else-both}
+use Rattle.refusals.proofs.Numbers.{answer-first, first-then, numbered-then, else-some, else-both}
 use Rattle.judge.specs.declared.Want.{Want}
 use Rattle.judge.specs.Want.{nothing, names, safeBlock, asked, wantOf, recordWant, proposeWant}
-use Rattle.judge.specs.Late.{lookedUp, lateRules, latePropose, recordLate, proposeLate}
-use Rattle.judge.specs.Contents.{digestNumber, beforeRecordDigest, beforeProposeDigest, due, recordDue, nextChild, proposeDue}
+use Rattle.judge.specs.Late.{lookedUp, lateRules, recordLate, proposeLate}
+use Rattle.judge.specs.Contents.{recordDue, proposeWantWith, proposeDue, proposeRefusal}
 use Rattle.judge.proofs.Passing.{shape-whole}
-use Rattle.judge.proofs.Dues.{record-with, test, propose-with, propose-early, shape-early, height-early}
+use Rattle.judge.proofs.Dues.{record-with, propose-with}
 use Rattle.judge.proofs.Wants.{regions-numbered, shape-numbered}
 use Rattle.judge.proofs.Lates.{lateOf, early-late-number, proposeLateOf, propose-early-late-number, refusals-numbered, early-numbered, propose-numbered, late-numbered}
 
@@ -53,10 +52,6 @@ want-refused i w = rw (ne-eqb (suc i) 0 (λ e. omega arith))
 want-open : (w : Want) → wantOf 0 w ≡ w
 unfolding wantOf
 want-open w = refl
-
-want-first : (i : ℕ) (w : Want) → w .refusal ≡ 0 → wantOf i w .refusal ≡ i
-want-first zero w e = rw (want-open w) e
-want-first (suc i) w e = rw (want-refused i w)
 
 -- the number before the store is asked, or else the late one
 chosen : (first : ℕ) (w : Want) (late : Want → ℕ) → w .refusal ≡ 0 → orElse first (late w) ≡ orElse (wantOf first w .refusal) (late (wantOf first w))
@@ -144,9 +139,13 @@ module _ (W : Work) (room : ℕ) where
       let b = else-both _ _ (sym (first-then (shapeRules (n W) r) (earlyRules W r (content r)) (shape-numbered (n W) r)) ∙ a .1) in
       λ g. (a .0, b .0, b .1, g))
 
-  -- ---- a record with contents: by its number without them
+  -- what `record_chain` asks
+  pub record-whole : (r : List ℕ) → recordWant W room r .refusal ≡ 0 → (badLength r ≡ false) × (badKind r ≡ false)
+  record-whole r e = shape-whole (n W) r (record-passed r e .1)
+
+  -- ---- a record with contents: what these refuse, or else the number without them
   abbrev pub recordNumberWith : List ℕ → List ℕ → ℕ
-  recordNumberWith r s = let k = recordNumber r in orElse (recordDue k (content r) s) k
+  recordNumberWith r s = orElse (recordDue W room r s) (recordNumber r)
 
   with-numbered : (r s : List ℕ) (q : Content) → numbered (tooLongRule (given s) then shapeRules (n W) r then rightBefore recordPlace (recordDigestRule W q (given s)) (refusals W byList r q)) ≡ true
   unfolding numbered refusals rightBefore
@@ -162,33 +161,7 @@ module _ (W : Work) (room : ℕ) where
   record-judged-with : {A : Type 0} (r s : List ℕ) (a : A)
       → judge (regionRules W room then tooLongRule (given s) then shapeRules (n W) r then rightBefore recordPlace (recordDigestRule W (content r) (given s)) (refusals W byList r (content r))) a ≡ answerOf (recordNumberWith r s) a
   record-judged-with r s a =
-      answer-first _ a (numbered-then _ _ (regions-numbered W room) (with-numbered r s (content r)))
-      ∙ ap (λ (i : ℕ). answerOf i a) (record-with W room r s (content r) ∙ ap (λ (k : ℕ). orElse (recordDue k (content r) s) k) (record-number r))
-
-  -- what `record_chain` asks
-  pub record-whole : (r : List ℕ) → recordWant W room r .refusal ≡ 0 → (badLength r ≡ false) × (badKind r ≡ false)
-  record-whole r e = shape-whole (n W) r (record-passed r e .1)
-
-  -- and `record_due`, by any late number
-  pub record-whole-due : (r : List ℕ) (l : ℕ) → beforeRecordDigest (orElse (recordWant W room r .refusal) l) ≡ false → badLength r ≡ false
-  unfolding recordWant
-  record-whole-due r l e = go (firstOf (a ++ b)) refl
-    where
-      a : List Rule
-      a = regionRules W room
-
-      b : List Rule
-      b = shapeRules (n W) r
-
-      go : (k : ℕ) → firstOf (a ++ b) ≡ k → badLength r ≡ false
-      go zero q = shape-whole (n W) r (else-both _ _ (sym (first-then a b (regions-numbered W room)) ∙ q) .1) .0
-      go (suc k) q =
-          let some : suc k ≡ 0 → ⊥ = λ z. omega arith in
-          let here : firstOf (a ++ (b ++ earlyRules W r (content r))) ≡ suc k =
-          ap firstOf (sym (append-assoc a b (earlyRules W r (content r)))) ∙ first-then (a ++ b) _ (numbered-then a b (regions-numbered W room) (shape-numbered (n W) r))
-          ∙ ap (λ (i : ℕ). orElse i (firstOf (earlyRules W r (content r)))) q ∙ else-some (suc k) _ some in
-          let first : recordWant W room r .refusal ≡ suc k = want-first _ _ (asked-open (W .memory) (content r)) ∙ here in
-          absurd (true≢false (sym (shape-early W room r (λ z. some (sym q ∙ z))) ∙ ap beforeRecordDigest (q ∙ sym (ap (λ (i : ℕ). orElse i l) first ∙ else-some (suc k) l some)) ∙ e))
+      answer-first _ a (numbered-then _ _ (regions-numbered W room) (with-numbered r s (content r))) ∙ ap (λ (i : ℕ). answerOf i a) (record-with W room r s ∙ ap (orElse (recordDue W room r s)) (record-number r))
 
   -- ---- propose
   abbrev pub nameRules : List ℕ → List Rule
@@ -221,45 +194,9 @@ module _ (W : Work) (room : ℕ) where
       open-places (firstOf (regionRules W room ++ earlyPropose W x)) (names (W .memory) x (safeBlock (W .memory) (certificateOf (entryOf (W .memory))))) e
       (λ q. let a = else-both _ _ (sym (first-then (regionRules W room) (earlyPropose W x) (regions-numbered W room)) ∙ q) in λ g. (a .0, a .1, g))
 
-  -- what `propose_due` asks
-  pub propose-height-due : (x : List ℕ) (found under : Found) → let w = proposeWant W room x in beforeProposeDigest (orElse (w .refusal) (firstOf (latePropose w found under))) ≡ false → under .block .height .0 < lastHeight
-  unfolding proposeWant
-  propose-height-due x found under e = go (w .refusal) refl
-    where
-      w : Want
-      w = proposeWant W room x
-
-      late : ℕ
-      late = firstOf (latePropose w found under)
-
-      go : (k : ℕ) → w .refusal ≡ k → under .block .height .0 < lastHeight
-      go zero q = height-early w found under (ap beforeProposeDigest (sym (else-none (w .refusal) late q)) ∙ e)
-      go (suc k) q =
-          let some : w .refusal ≡ 0 → ⊥ = λ z. let y : suc k ≡ 0 = sym q ∙ z in omega arith in
-          let first = want-first _ _ refl in
-          absurd (true≢false (sym (propose-early W room x [] (λ z. some (first ∙ z))) ∙ ap beforeProposeDigest (sym first ∙ sym (else-some (w .refusal) late some)) ∙ e))
-
   -- ---- propose with contents
   abbrev pub nameNumberWith : List ℕ → List ℕ → ℕ
-  nameNumberWith x s = let w = proposeWant W room x in let k = nameNumber x in orElse (proposeDue k x w (lookedUp W w (w .base)) s) k
-
-  -- where 17 is asked, what is looked up is the safe block
-  due-held : (x s : List ℕ) → let w = proposeWant W room x in due beforeProposeDigest (nameNumber x) s (cond (test W room x s) 17 0) ≡ proposeDue (nameNumber x) x w (lookedUp W w (w .base)) s
-  unfolding proposeDue digestNumber proposeWant
-  due-held x s = go (proposeWant W room x .refusal) refl
-    where
-      w : Want
-      w = proposeWant W room x
-
-      go : (k : ℕ) → w .refusal ≡ k
-          → due beforeProposeDigest (nameNumber x) s (cond (test W room x s) 17 0) ≡ due beforeProposeDigest (nameNumber x) s (digestNumber (nextChild x w (lookedUp W w (w .base))) s)
-      go zero e = ap (λ (v : Want). due beforeProposeDigest (nameNumber x) s (digestNumber (nextChild x v (lookedUp W v (v .base))) s)) (sym (propose-passed x e .2))
-      go (suc k) e =
-          let some : suc k ≡ 0 → ⊥ = λ q. omega arith in
-          let first = sym (want-first _ _ refl) ∙ e in
-          let number : nameNumber x ≡ suc k = ap (λ (i : ℕ). orElse i (proposeLate W w)) e ∙ else-some (suc k) (proposeLate W w) some in
-          let early : beforeProposeDigest (nameNumber x) ≡ true = ap beforeProposeDigest (number ∙ sym first) ∙ propose-early W room x s (λ q. some (sym first ∙ q)) in
-          rw early
+  nameNumberWith x s = let w = proposeWantWith W room x s in orElse (proposeDue x w (lookedUp W w (w .name)) (lookedUp W w (w .base)) s) (nameNumber x)
 
   propose-with-numbered : (x s : List ℕ) → numbered (tooLongRule (given s) then rightBefore proposePlace (proposeDigestRule W x (given s)) (proposeRules W byList x)) ≡ true
   unfolding numbered proposeRules rightBefore
@@ -269,14 +206,19 @@ module _ (W : Work) (room : ℕ) where
       → judge (regionRules W room then tooLongRule (given s) then rightBefore proposePlace (proposeDigestRule W x (given s)) (proposeRules W byList x)) a ≡ answerOf (nameNumberWith x s) a
   propose-judged-with x s a =
       answer-first _ a (numbered-then _ _ (regions-numbered W room) (propose-with-numbered x s))
-      ∙ ap (λ (i : ℕ). answerOf i a)
-      (propose-with W room x s ∙ ap (λ (k : ℕ). orElse (due beforeProposeDigest k s (cond (test W room x s) 17 0)) k) (name-number x) ∙ ap (λ (d : ℕ). orElse d (nameNumber x)) (due-held x s))
+      ∙ ap (λ (i : ℕ). answerOf i a) (propose-with W room x s ∙ ap (orElse _) (name-number x))
 
   -- ---- the timer
   pub timer-judged : {A : Type 0} (v : ℕ) (a : A) → judge (regionRules W room then timerRules W v) a ≡ answerOf (firstOf (regionRules W room then timerRules W v)) a
   timer-judged v a = answer-first (regionRules W room then timerRules W v) a (numbered-then _ _ (regions-numbered W room) (timer-numbered W v))
 
 -- ---- the calls
+-- a call with contents whose number is that of one list, or else of another: what the first refuses, or the call without contents
+chosen-call : (k i : ℕ) (W : Work) → answerOf (orElse k i) W ≡ cond (eqb k 0) (answerOf i W) (refuses k)
+unfolding orElse answerOf
+chosen-call zero i W = refl
+chosen-call (suc k) i W = let some : eqb (suc k) 0 ≡ false = ne-eqb (suc k) 0 (λ z. omega arith) in rw some
+
 module _ (r : Replica) (room : ℕ) where
   pub record-core : (bytes : List ℕ) → recordCore byList r room bytes ≡ answerOf (recordNumber (begin r) room bytes) (settle (onRecord bytes (content bytes) (begin r)))
   unfolding recordCore
@@ -286,14 +228,19 @@ module _ (r : Replica) (room : ℕ) where
   unfolding proposeCore
   propose-core x = propose-judged (begin r) room x _
 
-  pub record-core-with : (bytes s : List ℕ) → recordCoreWith byList r room bytes (given s) ≡ answerOf (recordNumberWith (begin r) room bytes s) (settle (onRecord bytes (content bytes) (begin r)))
-  unfolding recordCoreWith
-  record-core-with bytes s = record-judged-with (begin r) room bytes s _
-
-  pub propose-core-with : (x s : List ℕ) → proposeCoreWith byList r room x (given s) ≡ answerOf (nameNumberWith (begin r) room x s) (settle (onPropose x (begin r)))
-  unfolding proposeCoreWith
-  propose-core-with x s = propose-judged-with (begin r) room x s _
-
   pub timer-core : (v : ℕ) → timerCore r room v ≡ answerOf (firstOf (regionRules (begin r) room then timerRules (begin r) v)) (settle (onTimer v (begin r)))
   unfolding timerCore
   timer-core v = timer-judged (begin r) room v _
+
+  -- WITH CONTENTS: what these refuse, or else the call without them
+  pub record-core-with : (bytes s : List ℕ) → let k = recordDue (begin r) room bytes s in recordCoreWith byList r room bytes (given s) ≡ cond (eqb k 0) (recordCore byList r room bytes) (refuses k)
+  unfolding recordCoreWith
+  record-core-with bytes s =
+      let k = recordDue (begin r) room bytes s in
+      record-judged-with (begin r) room bytes s _ ∙ chosen-call k (recordNumber (begin r) room bytes) _ ∙ ap (λ (a : Answer Work). cond (eqb k 0) a (refuses k)) (sym (record-core bytes))
+
+  pub propose-core-with : (x s : List ℕ) → let k = proposeRefusal (begin r) room x s in proposeCoreWith byList r room x (given s) ≡ cond (eqb k 0) (proposeCore byList r room x) (refuses k)
+  unfolding proposeCoreWith proposeRefusal
+  propose-core-with x s =
+      let k = proposeRefusal (begin r) room x s in
+      propose-judged-with (begin r) room x s _ ∙ chosen-call k (nameNumber (begin r) room x) _ ∙ ap (λ (a : Answer Work). cond (eqb k 0) a (refuses k)) (sym (propose-core x))

@@ -2,7 +2,7 @@
 -- the block below it. Assumes nothing.
 use Prim.Native.Nat.{ℕ, suc}
 use mathlib.Core.Bool.{Bool, not, _&&_, _||_}
-use mathlib.Core.List.{List, [], _∷_}
+use mathlib.Core.List.{List, [], _∷_, _++_}
 use lib.Dec.{eqb, ltb, leb}
 use lib.ListN.{take}
 use Rattle.settings.specs.Answer.{Rule, _⇒_}
@@ -33,6 +33,14 @@ misplacedOn under b =
 unfoldable pub storeFull : Want → Found → Bool
 storeFull w found = not (found .is) && leb storeLength (w .count)
 
+-- propose: 11 to 13; the height is the safe block's plus 1
+unfoldable pub lateFirst : Found → Found → List Rule
+lateFirst found under =
+    found .is ⇒ 11
+    ∷ not (under .is) ⇒ 12
+    ∷ ltb lastHeight (suc (under .block .height .0)) ⇒ 13
+    ∷ []
+
 module _ (w : Want) (found under : Found) where
   -- kinds 7 and 8: 11 to 14
   unfoldable pub chainRules : Child → List Rule
@@ -52,14 +60,9 @@ module _ (w : Want) (found under : Found) where
   lateRules (block j x y h) = (found .is && sameFound found (childOf x y h)) ⇒ 10 ∷ chainRules (childOf x y h)
   lateRules (release j v x h) = []
 
-  -- propose: 11 to 14; the height is the safe block's plus 1
+  -- propose: 11 to 14
   unfoldable pub latePropose : List Rule
-  latePropose =
-      found .is ⇒ 11
-      ∷ not (under .is) ⇒ 12
-      ∷ ltb lastHeight (suc (under .block .height .0)) ⇒ 13
-      ∷ storeFull w found ⇒ 14
-      ∷ []
+  latePropose = lateFirst found under ++ (storeFull w found ⇒ 14 ∷ [])
 
 -- ---- with what the store holds: the first `count` entries, and the tip
 module _ (W : Work) (w : Want) where

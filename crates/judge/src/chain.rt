@@ -14,8 +14,8 @@ ghost use mathlib.Core.List.{_∷_};
 ghost use Rattle.settings.specs.Answer.{_⇒_};
 ghost use Rattle.wire.specs.Shape.{badLength};
 ghost use Rattle.wire.specs.Content.{content};
-ghost use Rattle.refusals.specs.Number.{firstOf, orElse};
-ghost use Rattle.judge.specs.Late.{sameFound, misplacedOn, storeFull, chainRules, lateRules, latePropose};
+ghost use Rattle.refusals.specs.Number.{firstOf};
+ghost use Rattle.judge.specs.Late.{sameFound, misplacedOn, storeFull, chainRules, lateRules, lateFirst, latePropose};
 
 // The block that was found has that parent and height.
 fn same_found(found: Found, b: Child) -> bool
@@ -110,9 +110,9 @@ pub fn record_chain(rec: &[u8], want: Want, found: Found, under: Found) -> u64
     0
 }
 
-// Propose, after what `propose` wants was looked up.
-pub fn propose_chain(want: Want, found: Found, under: Found) -> u64
-    ensures { λ r. ⌜ r ≡ firstOf (latePropose want found under) ⌝ }
+// 11 to 13 of propose.
+pub fn propose_first(found: Found, under: Found) -> u64
+    ensures { λ r. ⌜ r ≡ firstOf (lateFirst found under) ⌝ }
 {
     if found.is {
         return 11;
@@ -124,29 +124,19 @@ pub fn propose_chain(want: Want, found: Found, under: Found) -> u64
     if Height::LAST.0 <= lower.height.0 {
         return 13;
     }
+    0
+}
+
+// Propose, after what `propose` wants was looked up.
+pub fn propose_chain(want: Want, found: Found, under: Found) -> u64
+    ensures { λ r. ⌜ r ≡ firstOf (latePropose want found under) ⌝ }
+{
+    let first = propose_first(found, under);
+    if first != 0 {
+        return first;
+    }
     if store_full(want, found) {
         return 14;
     }
     0
-}
-
-// A record as a whole: what was refused before the store was asked, or else the late number.
-pub fn record_number(rec: &[u8], want: Want, found: Found, under: Found) -> u64
-    requires { ⌜ (want .refusal ≡ 0 → badLength (now rec) ≡ false) ⌝ }
-    ensures { λ r. ⌜ r ≡ orElse (want .refusal) (firstOf (lateRules want found under (content (now (rec .entry))))) ⌝ }
-{
-    if want.refusal != 0 {
-        return want.refusal;
-    }
-    record_chain(rec, want, found, under)
-}
-
-// Propose as a whole, in the same way.
-pub fn propose_number(want: Want, found: Found, under: Found) -> u64
-    ensures { λ r. ⌜ r ≡ orElse (want .refusal) (firstOf (latePropose want found under)) ⌝ }
-{
-    if want.refusal != 0 {
-        return want.refusal;
-    }
-    propose_chain(want, found, under)
 }

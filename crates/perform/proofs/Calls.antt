@@ -1,6 +1,5 @@
 -- THE CALLS as whole, for the caller, at the store that it has: it fills the block in, runs rule D as often as there are turns, and answers; in
--- every case alike. `record-outcome`, `propose-outcome` and `timer-outcome` say that this is the call of `protocol`, `record-with-outcome` and `propose-with-outcome`
--- with contents. Assumes nothing.
+-- every case alike. `record-outcome`, `propose-outcome` and `timer-outcome` say that this is the call of `protocol`. Assumes nothing.
 use Prim.Native.Nat.{ℕ, zero, suc, _^_, _≤_, _<_}
 use native.Mathlib.Omega.{arith}
 use mathlib.Core.Path.{_≡_, refl, sym, ap, _∙_}
@@ -22,12 +21,10 @@ use Rattle.protocol.specs.Work.{Work, own, viewNow, tip, blocks, heldBlock, rel
 use Rattle.protocol.specs.Refusals.{storeLength}
 use Rattle.protocol.specs.Events.{onRecord, onTimer, onPropose}
 use Rattle.protocol.specs.Rules.{lowestPair, ruleD, again, settle, ballotViews}
-use Rattle.protocol.specs.Contents.{given}
-use Rattle.protocol.specs.Calls.{Replica, begin, recordCore, timerCore, proposeCore, recordCoreWith, proposeCoreWith, Outcome, outcome, recordCall, timerCall, proposeCall, recordCallWith, proposeCallWith}
+use Rattle.protocol.specs.Calls.{Replica, begin, recordCore, timerCore, proposeCore, Outcome, outcome, recordCall, timerCall, proposeCall}
 use Rattle.refusals.specs.Number.{answerOf}
-use Rattle.refusals.proofs.Numbers.{else-both}
 use Rattle.judge.specs.declared.Want.{Want}
-use Rattle.judge.proofs.Whole.{record-core, propose-core, timer-core, record-core-with, propose-core-with}
+use Rattle.judge.proofs.Whole.{record-core, propose-core, timer-core}
 use Rattle.act.specs.declared.Draft.{Draft}
 use Rattle.act.specs.Draft.{workOf, Left, left, leftBy}
 use Rattle.act.proofs.Advancing.{longer-if}
@@ -36,7 +33,7 @@ use Rattle.event.proofs.Giving.{set-nowhere}
 use Rattle.rules.specs.Phases.{phases}
 use Rattle.rules.proofs.Running.{settle-is}
 use Rattle.perform.specs.declared.Done.{Done}
-use Rattle.perform.specs.Perform.{fresh, Performs, timerNumber, TimerJudged, proposeNumber, ProposeFound, proposeNumberWith, recordNumber, RecordFound, recordNumberWith}
+use Rattle.perform.specs.Perform.{fresh, Performs, timerNumber, TimerJudged, proposeNumber, ProposeFound, recordNumber, RecordFound}
 use Rattle.perform.proofs.Deciding.{timer-room, propose-room, record-room}
 
 -- ---- rule D: nothing is unwritten
@@ -143,19 +140,6 @@ module _ (R : Replica) (o : List ℕ) (short : length (R .store) < 2 ^ 64) (e : 
     unfolding recordCall
     record-outcome x = ap (outcome R o) record-does ∙ performs-outcome (recordNumber (length o) r) (onRecord r (content r)) (RecordFound (length o) r w found under) R p short g x
 
-  module _ (r c : List ℕ) (w : Want) (found under : Found) (g : RecordFound (length o) r w found under (begin R))
-      (p : Performs (recordNumberWith (length o) r c) (onRecord r (content r)) (RecordFound (length o) r w found under) (R .counters) (R .memory) o e m′ o′) where
-    record-with-does : recordCoreWith byList R (length o) r (given c) ≡ answerOf (e .refusal) done
-    unfolding recordNumberWith recordNumber
-    record-with-does =
-        record-core-with R (length o) r c
-        ∙ performs-answer (recordNumberWith (length o) r c) (onRecord r (content r)) (RecordFound (length o) r w found under) R p short g
-        (λ z. record-room (length o) r (begin R) (else-both _ _ (sym (p .number (R .store) short g) ∙ z) .1))
-
-    pub record-with-outcome : {d₂ : Draft} {m₂ o₂ : List ℕ} {s₂ : List Block} → left d₂ m₂ o₂ s₂ ≡ leftBy done o′ → recordCallWith byList R o r (given c) ≡ inHand d₂ m₂ o₂ s₂
-    unfolding recordCallWith
-    record-with-outcome x = ap (outcome R o) record-with-does ∙ performs-outcome (recordNumberWith (length o) r c) (onRecord r (content r)) (RecordFound (length o) r w found under) R p short g x
-
   module _ (x : List ℕ) (w : Want) (found under : Found) (g : ProposeFound (length o) x w found under (begin R))
       (p : Performs (proposeNumber (length o) x) (onPropose x) (ProposeFound (length o) x w found under) (R .counters) (R .memory) o e m′ o′) where
     pub propose-does : proposeCore byList R (length o) x ≡ answerOf (e .refusal) done
@@ -168,19 +152,6 @@ module _ (R : Replica) (o : List ℕ) (short : length (R .store) < 2 ^ 64) (e : 
     pub propose-outcome : {d₂ : Draft} {m₂ o₂ : List ℕ} {s₂ : List Block} → left d₂ m₂ o₂ s₂ ≡ leftBy done o′ → proposeCall byList R o x ≡ inHand d₂ m₂ o₂ s₂
     unfolding proposeCall
     propose-outcome y = ap (outcome R o) propose-does ∙ performs-outcome (proposeNumber (length o) x) (onPropose x) (ProposeFound (length o) x w found under) R p short g y
-
-  module _ (x c : List ℕ) (w : Want) (found under : Found) (g : ProposeFound (length o) x w found under (begin R))
-      (p : Performs (proposeNumberWith (length o) x c) (onPropose x) (ProposeFound (length o) x w found under) (R .counters) (R .memory) o e m′ o′) where
-    propose-with-does : proposeCoreWith byList R (length o) x (given c) ≡ answerOf (e .refusal) done
-    unfolding proposeNumberWith proposeNumber
-    propose-with-does =
-        propose-core-with R (length o) x c
-        ∙ performs-answer (proposeNumberWith (length o) x c) (onPropose x) (ProposeFound (length o) x w found under) R p short g
-        (λ z. propose-room (length o) x (begin R) (else-both _ _ (sym (p .number (R .store) short g) ∙ z) .1))
-
-    pub propose-with-outcome : {d₂ : Draft} {m₂ o₂ : List ℕ} {s₂ : List Block} → left d₂ m₂ o₂ s₂ ≡ leftBy done o′ → proposeCallWith byList R o x (given c) ≡ inHand d₂ m₂ o₂ s₂
-    unfolding proposeCallWith
-    propose-with-outcome y = ap (outcome R o) propose-with-does ∙ performs-outcome (proposeNumberWith (length o) x c) (onPropose x) (ProposeFound (length o) x w found under) R p short g y
 
   module _ (v k : ℕ) (g : TimerJudged (length o) v k (begin R))
       (p : Performs (timerNumber (length o) v) (onTimer v) (TimerJudged (length o) v k) (R .counters) (R .memory) o e m′ o′) where

@@ -1,5 +1,4 @@
 pub mod Completing
 pub mod Storing
 pub mod Deciding
-pub mod Checking
 pub mod Calls

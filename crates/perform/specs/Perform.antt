@@ -18,7 +18,6 @@ use Rattle.refusals.specs.Early.{lent}
 use Rattle.judge.specs.declared.Want.{Want}
 use Rattle.judge.specs.Want.{recordWant, proposeWant}
 use Rattle.judge.specs.Late.{lookedUp, recordLate, proposeLate}
-use Rattle.judge.specs.Contents.{recordDue, proposeDue}
 use Rattle.act.specs.declared.Draft.{Draft}
 use Rattle.act.specs.Draft.{workOf, left, leftBy, Ready}
 use Rattle.event.specs.Event.{nowhere}
@@ -86,13 +85,6 @@ recordNumber room r W = let w = recordWant W room r in orElse (w .refusal) (reco
 
 abbrev pub RecordFound : ℕ → List ℕ → Want → Found → Found → Work → Type 0
 RecordFound room r w found under W = LookedUp (λ (X : Work). recordWant X room r) w found under W
-
--- ---- with contents: what these refuse where it is their turn, or else the number without them
-unfoldable pub recordNumberWith : ℕ → List ℕ → List ℕ → Work → ℕ
-recordNumberWith room r s W = let k = recordNumber room r W in orElse (recordDue k (content r) s) k
-
-unfoldable pub proposeNumberWith : ℕ → List ℕ → List ℕ → Work → ℕ
-proposeNumberWith room x s W = let w = proposeWant W room x in let k = proposeNumber room x W in orElse (proposeDue k x w (lookedUp W w (w .base)) s) k
 
 -- accepted, with what the event asks of the store
 pub record Accepted (judged : Work → ℕ) (such : Work → Type 0) (W : Work) : Type 0 where

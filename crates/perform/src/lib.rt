@@ -12,11 +12,7 @@ use event::host::on_timer;
 use event::record::on_record;
 use judge::Want;
 use judge::chain::propose_chain;
-use judge::chain::propose_number;
 use judge::chain::record_chain;
-use judge::chain::record_number;
-use judge::contents::propose_due;
-use judge::contents::record_due;
 use memory::block_count;
 use rules::phases::run;
 use settings::Height;
@@ -33,7 +29,7 @@ ghost use Rattle.refusals.specs.Early.{lent};
 ghost use Rattle.act.specs.Draft.{workOf, Does, Ready};
 ghost use Rattle.event.specs.Event.{Always, Asked, Proposable};
 ghost use Rattle.rules.specs.Phases.{phases};
-ghost use Rattle.perform.specs.Perform.{refusal, rulesRoom, releasesRoom, callRoom, Completes, Performs, Lent, timerNumber, TimerJudged, Accepted, proposeNumber, ProposeFound, proposeNumberWith, recordNumber, RecordFound, recordNumberWith};
+ghost use Rattle.perform.specs.Perform.{refusal, rulesRoom, releasesRoom, callRoom, Completes, Performs, Lent, timerNumber, TimerJudged, Accepted, proposeNumber, ProposeFound, recordNumber, RecordFound};
 
 const NOWHERE: usize = 0xffff_ffff_ffff_ffff;
 
@@ -171,48 +167,4 @@ pub fn record(
     }
     let d = Draft { counters: c, at: 0 };
     record_accepted(mem, out, d, rec, found.is)
-}
-
-// A record that comes with contents: by these it may be refused, and otherwise it is the record without them.
-pub fn record_with(
-    c: Counters,
-    mem: &mut [u8],
-    out: &mut [u8],
-    rec: &[u8],
-    want: Want,
-    found: Found,
-    under: Found,
-    contents: &[u8],
-) -> Done
-    requires { ⌜ Lent (RecordFound (length (now out)) (now rec) want found under) (lent c (now mem)) ⌝ }
-    ensures { λ r. ⌜ Performs (recordNumberWith (length (now (out .entry))) (now (rec .entry)) (now (contents .entry))) (onRecord (now (rec .entry)) (content (now (rec .entry)))) (RecordFound (length (now (out .entry))) (now (rec .entry)) want found under) c (now (mem .entry)) (now (out .entry)) r (now (mem .exit)) (now (out .exit)) ⌝ }
-{
-    let number = record_number(rec, want, found, under);
-    let due = refused(c, record_due(number, rec, contents));
-    if ends(due) {
-        return due;
-    }
-    record(c, mem, out, rec, want, found, under)
-}
-
-// Propose a name with contents, in the same way.
-pub fn propose_with(
-    c: Counters,
-    mem: &mut [u8],
-    out: &mut [u8],
-    name: [u8; 32],
-    want: Want,
-    found: Found,
-    under: Found,
-    contents: &[u8],
-) -> Done
-    requires { ⌜ Lent (ProposeFound (length (now out)) name want found under) (lent c (now mem)) ⌝ }
-    ensures { λ r. ⌜ Performs (proposeNumberWith (length (now (out .entry))) name (now (contents .entry))) (onPropose name) (ProposeFound (length (now (out .entry))) name want found under) c (now (mem .entry)) (now (out .entry)) r (now (mem .exit)) (now (out .exit)) ⌝ }
-{
-    let number = propose_number(want, found, under);
-    let due = refused(c, propose_due(number, name, want, under, contents));
-    if ends(due) {
-        return due;
-    }
-    propose(c, mem, out, name, want, found, under)
 }

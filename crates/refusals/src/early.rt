@@ -47,7 +47,7 @@ ghost use Rattle.memory.specs.Layout.{memoryLength, rowSize, settingsOf, ownOf,
 ghost use Rattle.memory.specs.Leaders.{Listed, byList};
 ghost use Rattle.protocol.specs.Refusals.{refusals, viewOfProgress};
 ghost use Rattle.refusals.specs.Number.{firstOf};
-ghost use Rattle.refusals.specs.Early.{lent, ballotRules, keptRules, votedRules, proposalRules, earlyRules, earlyPropose};
+ghost use Rattle.refusals.specs.Early.{lent, ballotRules, keptRules, votedRules, proposalFirst, proposalRules, earlyRules, earlyPropose};
 
 // 6: of no replica of the cluster, or of oneself.
 fn not_other(mem: &[u8], sender: u64) -> bool
@@ -273,16 +273,16 @@ fn voted(c: Counters, v: View, name: [u8; 32]) -> u64
     11
 }
 
-// Kind 7, up to the high vote.
-fn proposal_early(c: Counters, mem: &[u8], rec: &[u8]) -> u64
+// Kind 7: 6 to 9, in the current view.
+pub fn proposal_first(current: View, mem: &[u8], rec: &[u8]) -> u64
     requires { ⌜ (entryPlace ≤ length (now mem)) × (Listed (now mem) × ((proposalHead + headerLength ≤ length (now rec)) × ((certificateLength (progressOf (now rec)) ≡ false) × (certificateKindBad (progressOf (now rec)) ≡ false)))) ⌝ }
-    ensures { λ r. ⌜ r ≡ firstOf (proposalRules (lent c (now (mem .entry)) []) (senderOf (now (rec .entry))) (viewOf (now (rec .entry))) (nameOf (now (rec .entry))) (certificateOf (progressOf (now (rec .entry))))) ⌝ }
+    ensures { λ r. ⌜ r ≡ firstOf (proposalFirst (now (mem .entry)) (current .0) (senderOf (now (rec .entry))) (viewOf (now (rec .entry))) (certificateOf (progressOf (now (rec .entry))))) ⌝ }
 {
     let v = View(u64_at(rec, 8));
     if not_leader(mem, u16_at(rec, 6) as u64, v) {
         return 6;
     }
-    if below_view(c.view, v) {
+    if below_view(current, v) {
         return 7;
     }
     if View::LAST.0 <= v.0 {
@@ -292,11 +292,23 @@ fn proposal_early(c: Counters, mem: &[u8], rec: &[u8]) -> u64
     if progress_bad(rec, inner, settings(mem), v) {
         return 9;
     }
-    voted(c, v, name_at(rec, 16))
+    0
+}
+
+// Kind 7, up to the high vote.
+fn proposal_early(c: Counters, mem: &[u8], rec: &[u8]) -> u64
+    requires { ⌜ (entryPlace ≤ length (now mem)) × (Listed (now mem) × ((proposalHead + headerLength ≤ length (now rec)) × ((certificateLength (progressOf (now rec)) ≡ false) × (certificateKindBad (progressOf (now rec)) ≡ false)))) ⌝ }
+    ensures { λ r. ⌜ r ≡ firstOf (proposalRules (lent c (now (mem .entry)) []) (senderOf (now (rec .entry))) (viewOf (now (rec .entry))) (nameOf (now (rec .entry))) (certificateOf (progressOf (now (rec .entry))))) ⌝ }
+{
+    let first = proposal_first(c.view, mem, rec);
+    if first != 0 {
+        return first;
+    }
+    voted(c, View(u64_at(rec, 8)), name_at(rec, 16))
 }
 
 // Kind 8: all but 6 asks the store.
-fn block_early(mem: &[u8], rec: &[u8]) -> u64
+pub fn block_first(mem: &[u8], rec: &[u8]) -> u64
     requires { ⌜ (entryPlace ≤ length (now mem)) × (headerLength ≤ length (now rec)) ⌝ }
     ensures { λ r. ⌜ r ≡ firstOf (leb (replicas (settingsOf (now (mem .entry)))) (senderOf (now (rec .entry))) ⇒ 6 ∷ []) ⌝ }
 {
@@ -325,7 +337,7 @@ pub fn early(c: Counters, mem: &[u8], rec: &[u8]) -> u64
         return proposal_early(c, mem, rec);
     }
     if kind == 8 {
-        return block_early(mem, rec);
+        return block_first(mem, rec);
     }
     certificate_early(c, mem, rec)
 }

@@ -15,6 +15,9 @@ use decisive::Decisive;
 use decisive::whose;
 use digest::Named;
 use event::host::open_memory;
+use judge::contents::propose_due;
+use judge::contents::propose_want;
+use judge::contents::record_due;
 use perform::Done;
 use release::release_all;
 use settings::Admission;
@@ -23,13 +26,18 @@ use settings::View;
 use settings::admit;
 use settings::bad_leaders;
 ghost use mathlib.Core.Path.{_≡_};
+ghost use mathlib.Core.Bool.{cond};
 ghost use mathlib.Core.List.{List, []};
+ghost use lib.Dec.{eqb};
+ghost use Rattle.settings.specs.Answer.{refuses};
 ghost use lib.ListN.{length, set};
 ghost use Rattle.memory.specs.Leaders.{byList};
 ghost use Rattle.protocol.specs.Rules.{again};
 ghost use Rattle.protocol.specs.Contents.{given};
-ghost use Rattle.protocol.specs.Calls.{recordCall, timerCall, proposeCall, openingCall, recordCallWith, proposeCallWith};
+ghost use Rattle.protocol.specs.Calls.{outcome, recordCall, timerCall, proposeCall, openingCall, recordCallWith, proposeCallWith};
 ghost use Rattle.refusals.specs.Number.{answerOf};
+ghost use Rattle.refusals.specs.Early.{lent};
+ghost use Rattle.judge.specs.Contents.{recordDue, proposeRefusal};
 ghost use Rattle.act.specs.Draft.{workOf, left, leftBy};
 ghost use Rattle.blocks.specs.declared.Block.{Block};
 ghost use Rattle.decisive.specs.Decisive.{decisiveCall};
@@ -99,7 +107,61 @@ pub extern "C" fn hydrangea_record(
     answer(done.refusal, d.at)
 }
 
-// A record of any bytes that comes with contents of any bytes (02, 2.5).
+// Contents refuse nothing.
+fn passes(due: u64) -> bool
+    ensures { λ r. ⌜ r ≡ eqb due 0 ⌝ }
+{
+    due == 0
+}
+
+// What contents refuse a call by.
+fn refused(due: u64) -> Reply
+    ensures { λ r. ⌜ r ≡ replyOf (refuses due) ⌝ }
+{
+    Reply {
+        refusal: due,
+        written: 0,
+    }
+}
+
+// What contents refuse a record by, or 0; nothing is written.
+fn record_refusal(
+    counters: &mut Counters,
+    mem: &[u8],
+    entries: usize,
+    room: usize,
+    rec: &[u8],
+    contents: &[u8],
+) -> u64
+    ensures { λ r. ⌜ (now (counters .exit) ≡ now (counters .entry))
+        × ((s : List Block) → length s ≡ entries → r ≡ recordDue (lent (now (counters .entry)) (now (mem .entry)) s) room (now (rec .entry)) (now (contents .entry))) ⌝ }
+{
+    let c = *counters;
+    record_due(c, mem, entries, room, rec, contents)
+}
+
+// The record, or what it is refused by.
+fn record_or(
+    counters: &mut Counters,
+    mem: &mut [u8],
+    store: &mut [Block],
+    out: &mut [u8],
+    rec: &[u8],
+    goes: bool,
+    due: u64,
+) -> Reply
+    ensures { λ r. ⌜ replied r (now (counters .exit)) (now (mem .exit)) (now (store .exit)) (now (out .exit))
+        ≡ cond goes (repliedBy (recordCall byList (lentTo (now (counters .entry)) (now (mem .entry)) (now (store .entry))) (now (out .entry)) (now (rec .entry))))
+        (repliedBy (outcome (lentTo (now (counters .entry)) (now (mem .entry)) (now (store .entry))) (now (out .entry)) (refuses due))) ⌝ }
+{
+    if goes {
+        hydrangea_record(counters, mem, store, out, rec)
+    } else {
+        refused(due)
+    }
+}
+
+// A record of any bytes that comes with contents of any bytes (02, 2.5): where these don't refuse it, it is the record without them.
 #[no_mangle]
 pub extern "C" fn hydrangea_record_with(
     counters: &mut Counters,
@@ -112,14 +174,9 @@ pub extern "C" fn hydrangea_record_with(
     ensures { λ r. ⌜ replied r (now (counters .exit)) (now (mem .exit)) (now (store .exit)) (now (out .exit))
         ≡ repliedBy (recordCallWith byList (lentTo (now (counters .entry)) (now (mem .entry)) (now (store .entry))) (now (out .entry)) (now (rec .entry)) (given (now (contents .entry)))) ⌝ }
 {
-    let c = *counters;
-    let want = judge::record(c, mem, store.len(), out.len(), rec);
-    let found = held(store, want.count, c.tip, want.name);
-    let under = held(store, want.count, c.tip, want.base);
-    let done = perform::record_with(c, mem, out, rec, want, found, under, contents);
-    let d = conclude(mem, store, out, done);
-    *counters = d.counters;
-    answer(done.refusal, d.at)
+    let due = record_refusal(counters, mem, store.len(), out.len(), rec, contents);
+    let goes = passes(due);
+    record_or(counters, mem, store, out, rec, goes, due)
 }
 
 // A host hands a view over as its number.
@@ -172,7 +229,47 @@ pub extern "C" fn hydrangea_propose(
     answer(done.refusal, d.at)
 }
 
-// A block of a name and of contents is proposed.
+// What contents refuse a propose by, or 0; nothing is written.
+fn propose_refusal(
+    counters: &mut Counters,
+    mem: &[u8],
+    store: &[Block],
+    room: usize,
+    name: Name,
+    contents: &[u8],
+) -> u64
+    ensures { λ r. ⌜ (now (counters .exit) ≡ now (counters .entry))
+        × (r ≡ proposeRefusal (lent (now (counters .entry)) (now (mem .entry)) (now (store .entry))) room (name .bytes) (now (contents .entry))) ⌝ }
+{
+    let c = *counters;
+    let want = propose_want(c, mem, store.len(), room, name.bytes, contents);
+    let found = held(store, want.count, c.tip, want.name);
+    let under = held(store, want.count, c.tip, want.base);
+    propose_due(name.bytes, want, found, under, contents)
+}
+
+// The proposal, or what it is refused by.
+fn propose_or(
+    counters: &mut Counters,
+    mem: &mut [u8],
+    store: &mut [Block],
+    out: &mut [u8],
+    name: Name,
+    goes: bool,
+    due: u64,
+) -> Reply
+    ensures { λ r. ⌜ replied r (now (counters .exit)) (now (mem .exit)) (now (store .exit)) (now (out .exit))
+        ≡ cond goes (repliedBy (proposeCall byList (lentTo (now (counters .entry)) (now (mem .entry)) (now (store .entry))) (now (out .entry)) (name .bytes)))
+        (repliedBy (outcome (lentTo (now (counters .entry)) (now (mem .entry)) (now (store .entry))) (now (out .entry)) (refuses due))) ⌝ }
+{
+    if goes {
+        hydrangea_propose(counters, mem, store, out, name)
+    } else {
+        refused(due)
+    }
+}
+
+// A block of a name and of contents is proposed, in the same way.
 #[no_mangle]
 pub extern "C" fn hydrangea_propose_with(
     counters: &mut Counters,
@@ -185,14 +282,9 @@ pub extern "C" fn hydrangea_propose_with(
     ensures { λ r. ⌜ replied r (now (counters .exit)) (now (mem .exit)) (now (store .exit)) (now (out .exit))
         ≡ repliedBy (proposeCallWith byList (lentTo (now (counters .entry)) (now (mem .entry)) (now (store .entry))) (now (out .entry)) (name .bytes) (given (now (contents .entry)))) ⌝ }
 {
-    let c = *counters;
-    let want = judge::propose(c, mem, store.len(), out.len(), name.bytes);
-    let found = held(store, want.count, c.tip, want.name);
-    let under = held(store, want.count, c.tip, want.base);
-    let done = perform::propose_with(c, mem, out, name.bytes, want, found, under, contents);
-    let d = conclude(mem, store, out, done);
-    *counters = d.counters;
-    answer(done.refusal, d.at)
+    let due = propose_refusal(counters, mem, store, out.len(), name, contents);
+    let goes = passes(due);
+    propose_or(counters, mem, store, out, name, goes, due)
 }
 
 // 01's number of the refusal, or 0, and the counters.

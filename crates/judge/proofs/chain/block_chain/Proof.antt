@@ -4,8 +4,6 @@ use Rattle.refusals.proofs.Numbers.{skip, hit, and-both, and-not, and-nor}
 use borrow.Author.Needs.{needs}
 use Rattle.judge.proofs.chain.block_chain.Statement.{statement}
 use Rattle.judge.proofs.chain.block_chain.Tie as tie
-use Rattle.judge.proofs.chain.chain.Reads as chain-reads
-use Rattle.judge.proofs.chain.same_found.Reads as same-found-reads
 
 same-found-requires : tie.Need-same-found-requires
 same-found-requires c κs = search needs

@@ -7,10 +7,6 @@ use Rattle.judge.specs.Late.{sameFound, chainRules}
 use borrow.Author.Needs.{needs}
 use Rattle.judge.proofs.chain.chain.Statement.{statement}
 use Rattle.judge.proofs.chain.chain.Tie as tie
-use Rattle.codec.proofs.name.same.Reads as same-reads
-use Rattle.judge.proofs.chain.misplaced_on.Reads as misplaced-on-reads
-use Rattle.judge.proofs.chain.same_found.Reads as same-found-reads
-use Rattle.judge.proofs.chain.store_full.Reads as store-full-reads
 
 -- not held with another parent or height
 same : (c : tie.Joined1) → (c .before .args .found .is && not (sameFound (c .before .args .found) (c .before .args .b))) ≡ false

@@ -7,11 +7,6 @@ use borrow.Author.Needs.{needs}
 use native.Mathlib.Omega.{arith}
 use Rattle.judge.proofs.chain.record_chain.Statement.{statement}
 use Rattle.judge.proofs.chain.record_chain.Tie as tie
-use Rattle.codec.proofs.num.u16_at.Reads as u16-at-reads
-use Rattle.judge.proofs.chain.block_chain.Reads as block-chain-reads
-use Rattle.judge.proofs.chain.chain.Reads as chain-reads
-use Rattle.wire.proofs.read.block.Reads as block-reads
-use Rattle.wire.proofs.read.proposed.Reads as proposed-reads
 
 u16-at-requires : tie.Need-u16-at-requires
 u16-at-requires c κs = omega (arith, whole-header _ (c .before .pre))

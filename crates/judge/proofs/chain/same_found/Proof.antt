@@ -2,7 +2,6 @@ use Rattle.judge.specs.Late.{sameFound}
 use borrow.Author.Needs.{needs}
 use Rattle.judge.proofs.chain.same_found.Statement.{statement}
 use Rattle.judge.proofs.chain.same_found.Tie as tie
-use Rattle.codec.proofs.name.same.Reads as same-reads
 
 same-requires : tie.Need-same-requires
 same-requires c κs = search needs

@@ -55,12 +55,12 @@ returns-4 : tie.Need-returns-4
 unfolding content earlyRules
 returns-4 c = rw (← c .before .before .before .before .before .u16-at .ensures, c .before .if4 .taken) (c .proposal-early .ensures)
 
-block-early-requires : tie.Need-block-early-requires
-block-early-requires c κs = (omega (arith, c .before .before .before .before .before .before .before .before .pre .0), whole-header _ (c .before .before .before .before .before .before .before .before .pre .1 .1 .1 .0))
+block-first-requires : tie.Need-block-first-requires
+block-first-requires c κs = (omega (arith, c .before .before .before .before .before .before .before .before .pre .0), whole-header _ (c .before .before .before .before .before .before .before .before .pre .1 .1 .1 .0))
 
 returns-5 : tie.Need-returns-5
 unfolding content earlyRules
-returns-5 c = rw (← c .before .before .before .before .before .before .u16-at .ensures, c .before .if5 .taken) (c .block-early .ensures)
+returns-5 c = rw (← c .before .before .before .before .before .before .u16-at .ensures, c .before .if5 .taken) (c .block-first .ensures)
 
 certificate-early-requires : tie.Need-certificate-early-requires
 certificate-early-requires c κs = (omega (arith, c .before .before .before .before .before .before .before .before .pre .0), is-certificate c)
@@ -82,7 +82,7 @@ early-spec =
     returns-3
     proposal-early-requires
     returns-4
-    block-early-requires
+    block-first-requires
     returns-5
     certificate-early-requires
     returns-6)

@@ -1,89 +1,28 @@
-use mathlib.Core.Path.{_≡_, sym, _∙_}
-use mathlib.Core.Bool.{Bool, false, not, _&&_, _||_}
-use Prim.Native.Nat.{suc}
-use lib.Dec.{leb, ltb, eqb}
-use borrow.Author.Tests.{le-leb, lt-leb}
-use Rattle.settings.specs.Quorum.{lastView, replicas}
-use Rattle.wire.specs.Fields.{senderOf, viewOf, progressOf}
-use Rattle.wire.specs.Content.{certificateOf}
-use Rattle.wire.proofs.Certificates.{within, shaped-stands}
-use Rattle.certificate.specs.Good.{progressGood}
-use Rattle.memory.specs.Layout.{settingsOf, ownOf}
-use Rattle.memory.specs.Leaders.{byList}
-use Rattle.protocol.specs.Refusals.{viewOfProgress}
-use Rattle.refusals.specs.Early.{proposalRules, votedRules}
-use Rattle.refusals.proofs.Numbers.{skip, hit}
+use Prim.Native.Nat.{ℕ}
+use mathlib.Core.Path.{_≡_, refl, sym, _∙_}
+use mathlib.Core.Bool.{true}
+use mathlib.Core.List.{List}
+use Rattle.wire.specs.Content.{Certificate}
+use Rattle.refusals.specs.Number.{numbered}
+use Rattle.refusals.specs.Early.{votedRules, proposalFirst, proposalRules}
+use Rattle.refusals.proofs.Numbers.{first-then, else-some, else-none}
 use borrow.Author.Needs.{needs}
 use Rattle.refusals.proofs.early.proposal_early.Statement.{statement}
 use Rattle.refusals.proofs.early.proposal_early.Tie as tie
 
--- the tests of 6, 7 and 9, and what the code says of them
-abbrev party : tie.Start → Bool
-party s =
-    let m = s .args .mem .now in
-    let j = senderOf (s .args .rec .now) in
-    let v = viewOf (s .args .rec .now) in
-    (leb (replicas (settingsOf m)) j || eqb j (ownOf m)) || (ltb 0 v && not (eqb j (byList m v)))
+proposal-first-requires : tie.Need-proposal-first-requires
+proposal-first-requires c κs = search needs
 
-abbrev low : tie.Start → Bool
-low s = ltb (viewOf (s .args .rec .now)) (s .args .c .view .0) || eqb (viewOf (s .args .rec .now)) 0
-
-abbrev bad : tie.Start → Bool
-bad s =
-    let k = certificateOf (progressOf (s .args .rec .now)) in
-    not (progressGood (settingsOf (s .args .mem .now)) k && eqb (suc (viewOfProgress k)) (viewOf (s .args .rec .now)))
-
-party-is : (c : tie.After-not-leader) → c .not-leader .result ≡ party (c .before .before .before .before .before)
-party-is c = rw (c .before .u16-at .ensures, c .before .before .u64-at .ensures) at (c .not-leader .ensures)
-
-low-is : (c : tie.After-below-view) → c .below-view .result ≡ low (c .before .before .before .before .before .before .before)
-low-is c = rw (c .before .before .before .before .u64-at .ensures) at (c .below-view .ensures)
-
-bad-is : (c : tie.After-progress-bad) → c .progress-bad .result ≡ bad (c .before .before .before .before .before .before .before .before .before .before .before .before .before .before)
-bad-is c = rw (c .before .before .progress .ensures .1, c .before .settings .ensures, c .before .before .before .before .before .before .before .before .before .before .before .u64-at .ensures) at (c .progress-bad .ensures)
-
-below : (c : tie.Else3) → leb lastView (viewOf (c .before .before .before .before .before .before .before .before .before .before .before .args .rec .now)) ≡ false
-below c = rw (c .before .before .before .before .before .before .before .before .u64-at .ensures) at (lt-leb _ _ (c .if3 .left))
-
-u64-at-requires : tie.Need-u64-at-requires
-u64-at-requires c κs = search needs
-
-u16-at-requires : tie.Need-u16-at-requires
-u16-at-requires c κs = search needs
-
-cast-not-leader : tie.Need-cast-not-leader
-cast-not-leader c = search needs
-
-not-leader-requires : tie.Need-not-leader-requires
-not-leader-requires c κs = search needs
+proposal-numbered : (m : List ℕ) (current j v : ℕ) (k : Certificate) → numbered (proposalFirst m current j v k) ≡ true
+unfolding proposalFirst numbered
+proposal-numbered m current j v k = refl
 
 returns : tie.Need-returns
 unfolding proposalRules
-returns c = hit _ _ (sym (party-is (c .before)) ∙ c .if1 .taken)
+returns c = let e = c .before .proposal-first .ensures in e ∙ sym (first-then _ _ (proposal-numbered _ _ _ _ _) ∙ else-some _ _ (λ q. c .if1 .taken (e ∙ q)))
 
-below-view-requires : tie.Need-below-view-requires
-below-view-requires c κs = search needs
-
-returns-2 : tie.Need-returns-2
-unfolding proposalRules
-returns-2 c = skip _ _ (sym (party-is (c .before .before .before)) ∙ c .before .before .if1 .left) (hit _ _ (sym (low-is (c .before)) ∙ c .if2 .taken))
-
-returns-3 : tie.Need-returns-3
-unfolding proposalRules
-returns-3 c = skip _ _ (sym (party-is (c .before .before .before .before .before .before)) ∙ c .before .before .before .before .before .if1 .left) (skip _ _ (sym (low-is (c .before .before .before .before)) ∙ c .before .before .before .if2 .left) (hit _ _ (rw (c .before .before .before .before .before .before .before .before .u64-at .ensures) at (le-leb _ _ (c .if3 .taken)))))
-
-progress-requires : tie.Need-progress-requires
-progress-requires c κs = let S = shaped-stands (c .before .before .before .before .before .before .before .before .before .before .before .args .rec .now) 88 (c .before .before .before .before .before .before .before .before .before .before .before .pre .1 .1 .1 .0) (c .before .before .before .before .before .before .before .before .before .before .before .pre .1 .1 .1 .1) in (S .head, S .block)
-
-settings-requires : tie.Need-settings-requires
-settings-requires c κs = search needs
-
-progress-bad-requires : tie.Need-progress-bad-requires
-progress-bad-requires c κs = within (c .before .before .before .before .before .before .before .before .before .before .before .before .before .args .rec .now) 88 (shaped-stands (c .before .before .before .before .before .before .before .before .before .before .before .before .before .args .rec .now) 88 (c .before .before .before .before .before .before .before .before .before .before .before .before .before .pre .1 .1 .1 .0) (c .before .before .before .before .before .before .before .before .before .before .before .before .before .pre .1 .1 .1 .1)) (c .before .progress .ensures .0)
-
-returns-4 : tie.Need-returns-4
-unfolding proposalRules
-returns-4 c = skip _ _ (sym (party-is (c .before .before .before .before .before .before .before .before .before .before)) ∙ c .before .before .before .before .before .before .before .before .before .if1 .left) (skip _ _ (sym (low-is (c .before .before .before .before .before .before .before .before)) ∙ c .before .before .before .before .before .before .before .if2 .left) (skip _ _ (below (c .before .before .before .before)) (hit _ _ (sym (bad-is (c .before)) ∙ c .if4 .taken))))
+u64-at-requires : tie.Need-u64-at-requires
+u64-at-requires c κs = search needs
 
 name-at-requires : tie.Need-name-at-requires
 name-at-requires c κs = search needs
@@ -91,26 +30,19 @@ name-at-requires c κs = search needs
 voted-requires : tie.Need-voted-requires
 voted-requires c κs = search needs
 
-returns-5 : tie.Need-returns-5
+returns-2 : tie.Need-returns-2
 unfolding proposalRules votedRules
-returns-5 c = skip _ _ (sym (party-is (c .before .before .before .before .before .before .before .before .before .before .before .before)) ∙ c .before .before .before .before .before .before .before .before .before .before .before .if1 .left) (skip _ _ (sym (low-is (c .before .before .before .before .before .before .before .before .before .before)) ∙ c .before .before .before .before .before .before .before .before .before .if2 .left) (skip _ _ (below (c .before .before .before .before .before .before)) (skip _ _ (sym (bad-is (c .before .before .before)) ∙ c .before .before .if4 .left) (rw (c .before .before .before .before .before .before .before .before .before .before .before .before .before .before .u64-at .ensures, c .before .name-at .ensures) at (c .voted .ensures)))))
+returns-2 c =
+    let e = c .before .before .before .before .proposal-first .ensures in
+    rw (c .before .before .u64-at .ensures, c .before .name-at .ensures) at (c .voted .ensures) ∙ sym (first-then _ _ (proposal-numbered _ _ _ _ _) ∙ else-none _ _ (sym e ∙ c .before .before .before .if1 .left))
 
 pub proposal-early-spec : {M : Type 1} → statement M
 proposal-early-spec =
     tie.close
     (tie.spec
-    u64-at-requires
-    u16-at-requires
-    cast-not-leader
-    not-leader-requires
+    proposal-first-requires
     returns
-    below-view-requires
-    returns-2
-    returns-3
-    progress-requires
-    settings-requires
-    progress-bad-requires
-    returns-4
+    u64-at-requires
     name-at-requires
     voted-requires
-    returns-5)
+    returns-2)

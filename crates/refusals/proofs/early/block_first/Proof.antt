@@ -1,8 +1,8 @@
 use borrow.Author.Tests.{le-leb, lt-leb}
 use Rattle.refusals.proofs.Numbers.{skip, hit, none}
 use borrow.Author.Needs.{needs}
-use Rattle.refusals.proofs.early.block_early.Statement.{statement}
-use Rattle.refusals.proofs.early.block_early.Tie as tie
+use Rattle.refusals.proofs.early.block_first.Statement.{statement}
+use Rattle.refusals.proofs.early.block_first.Tie as tie
 use Rattle.codec.proofs.num.u16_at.Reads as u16-at-reads
 use Rattle.memory.proofs.settings.Reads as settings-reads
 use Rattle.settings.proofs.Settings.n.Reads as n-reads
@@ -25,6 +25,6 @@ returns c = hit _ _ (rw (c .before .before .n .ensures, c .before .before .befor
 returns-2 : tie.Need-returns-2
 returns-2 c = skip _ _ (rw (c .before .before .n .ensures, c .before .before .before .settings .ensures, c .before .u16-at .ensures) at (lt-leb _ _ (c .if1 .left))) none
 
-pub block-early-spec : {M : Type 1} → statement M
-block-early-spec =
+pub block-first-spec : {M : Type 1} → statement M
+block-first-spec =
     tie.close (tie.spec settings-requires n-requires u16-at-requires cast-if1 returns returns-2)
