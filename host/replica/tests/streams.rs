@@ -2,8 +2,8 @@
 //! each record that is written says what the oracle reads in it.
 
 use oracle::{wire, Leaders};
-use replica::{Accepted, Content, Name, Progress, Receiver, Record, Refusal, Replica, Settings, Timeout, View};
-use streams::{play, Call, Coverage, Opening};
+use replica::{Accepted, Content, Contents, Name, Progress, Receiver, Record, Refusal, Replica, Settings, Timeout, View};
+use streams::{play_stream, Call, Coverage, Opening, Stream};
 
 fn open(opening: Opening) -> Replica {
     let [f, c, k, n, own] = opening.numbers();
@@ -15,8 +15,14 @@ fn make<'a>(replica: &'a mut Replica, call: &Call) -> Result<Accepted<'a>, Refus
         Call::Record(bytes) => replica.record(bytes),
         Call::Timer(view) => replica.timer(View(*view)),
         Call::Propose(name) => replica.propose(Name { bytes: *name }),
-        Call::RecordWith(..) | Call::ProposeWith(..) => unreachable!("these streams have no contents"),
+        Call::RecordWith(bytes, contents) => replica.record_with(bytes, Contents(contents)),
+        Call::ProposeWith(name, contents) => replica.propose_with(Name { bytes: *name }, Contents(contents)),
     }
+}
+
+/// The calls of a stream that comes with contents at times.
+fn calls(opening: Opening, seed: u64, count: usize) -> Vec<Call> {
+    play_stream(opening, Stream::new(seed).with_contents(), count, &mut Coverage::default()).calls
 }
 
 /// Its answer and output.
@@ -29,7 +35,7 @@ fn a_restored_replica_goes_on_to_the_same_bytes() {
     for seed in 0..6 {
         let opening = Opening::seeded_led(seed);
         let (mut steady, mut saved) = (open(opening), open(opening).save());
-        for call in play(opening, seed, 500, &mut Coverage::default()).calls {
+        for call in calls(opening, seed, 500) {
             let mut resumed = Replica::restore(&saved).expect("what a call left");
             assert_eq!(answer(&mut resumed, &call), answer(&mut steady, &call));
             saved = resumed.save();
@@ -84,7 +90,7 @@ fn records_say_what_their_bytes_say() {
         let opening = Opening::seeded_led(seed);
         let mut replica = open(opening);
         assert_eq!(replica.leaders(), opening.leaders.list());
-        for call in play(opening, seed, 400, &mut Coverage::default()).calls {
+        for call in calls(opening, seed, 400) {
             let Ok(accepted) = make(&mut replica, &call) else { continue };
             let output = accepted.unsaved();
             let mut again = Vec::new();
