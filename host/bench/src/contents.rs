@@ -48,30 +48,25 @@ impl Way {
     pub const ALL: [Way; 2] = [Way::With, Way::Plain];
 }
 
-/// A call that is accepted.
+/// A call that is accepted, with contents and without.
 pub struct Call {
-    input: Input,
-    contents: Vec<u8>,
+    with: streams::Call,
+    plain: streams::Call,
     /// Its kind is asked for; the others only lead there.
     pub is_timed: bool,
 }
 
-enum Input {
-    Record(Vec<u8>),
-    Propose(Name),
-}
-
 impl Call {
+    fn new(plain: streams::Call, contents: Vec<u8>, is_timed: bool) -> Call {
+        Call { with: plain.clone().with(contents), plain, is_timed }
+    }
+
     /// Whether it is accepted.
     pub fn make(&self, library: &mut Library, way: Way) -> bool {
-        let mut lent = library.lent();
-        let reply = match (&self.input, way) {
-            (Input::Record(bytes), Way::With) => lent.record_with(bytes, &self.contents),
-            (Input::Record(bytes), Way::Plain) => lent.record(bytes),
-            (Input::Propose(name), Way::With) => lent.propose_with(replica::Name { bytes: *name }, &self.contents),
-            (Input::Propose(name), Way::Plain) => lent.propose(replica::Name { bytes: *name }),
-        };
-        reply.refusal == 0
+        library.make(match way {
+            Way::With => &self.with,
+            Way::Plain => &self.plain,
+        })
     }
 }
 
@@ -88,7 +83,7 @@ impl Chain {
         let mut chain = Chain { kind, length, calls: Vec::new() };
         let mut top = Block::GENESIS;
         for height in 1..=CHAIN {
-            let contents: Vec<u8> = (0..length).map(|_| random.number() as u8).collect();
+            let contents = random.bytes(length);
             top = child(&top, &contents);
             chain.bring(&top, View(height), contents);
         }
@@ -98,24 +93,24 @@ impl Chain {
     /// The calls by which a block is brought; a proposal has its view by its height.
     fn bring(&mut self, block: &Block, view: View, contents: Vec<u8>) {
         let mut record = Vec::new();
-        let input = match self.kind {
+        let plain = match self.kind {
             Kind::Block => {
                 wire::write_block(&mut record, 0, block);
-                Input::Record(record)
+                streams::Call::Record(record)
             }
             Kind::Proposal => {
                 wire::write_proposal(&mut record, 0, view, block, &certificate(block.parent, View(view.0 - 1)));
-                Input::Record(record)
+                streams::Call::Record(record)
             }
             Kind::Propose => {
                 if view > View(1) {
-                    let entry = Input::Record(certificate(block.parent, View(view.0 - 1)));
-                    self.calls.push(Call { input: entry, contents: Vec::new(), is_timed: false });
+                    let entry = streams::Call::Record(certificate(block.parent, View(view.0 - 1)));
+                    self.calls.push(Call::new(entry, Vec::new(), false));
                 }
-                Input::Propose(block.name)
+                streams::Call::Propose(block.name)
             }
         };
-        self.calls.push(Call { input, contents, is_timed: true });
+        self.calls.push(Call::new(plain, contents, true));
     }
 
     /// Plays it on an opened replica; every call is accepted.

@@ -66,7 +66,7 @@ fn timed_marks(case: &[Script]) -> Vec<Mark> {
     marks.filter(|mark| *mark != Mark::Untimed).collect()
 }
 
-/// Of each case the nanoseconds of its calls, library then oracle: each call's median over the rounds, less what measuring
+/// Of each case the nanoseconds of its calls, one side and the other: each call's median over the rounds, less what measuring
 /// takes by itself. A round plays all cases, so that a slow while of the machine slows all; the first round warms up and
 /// isn't counted.
 pub fn medians_of<C>(cases: &[C], rounds: usize, mut time: impl FnMut(&C) -> [Vec<u32>; 2]) -> Vec<[Vec<f64>; 2]> {
@@ -75,10 +75,10 @@ pub fn medians_of<C>(cases: &[C], rounds: usize, mut time: impl FnMut(&C) -> [Ve
     for round in 0..=rounds {
         nothing.push(time_nothing());
         for (case, times) in cases.iter().zip(&mut times) {
-            let [library, oracle] = time(case);
+            let [one, other] = time(case);
             if round > 0 {
-                times[0].push(library);
-                times[1].push(oracle);
+                times[0].push(one);
+                times[1].push(other);
             }
         }
     }

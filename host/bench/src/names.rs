@@ -9,8 +9,7 @@ use crate::measure::measure_calls;
 use crate::table::{Row, Table};
 
 /// Bytes of contents that are measured, up to the most that the call takes.
-pub const LENGTHS: [usize; 4] = [0, 64, 1024, LONGEST];
-pub const LONGEST: usize = 4096;
+pub const LENGTHS: [usize; 4] = [0, 64, 1024, raw::CONTENTS];
 
 /// Blocks of each length.
 const SEEDS: u64 = 10;
@@ -80,7 +79,7 @@ pub fn measure(rounds: usize) -> Table {
 
 /// Both sides give the known name.
 fn assert_known() {
-    let question = Question::new(Name { bytes: [b'p'; 32] }, 7, vec![b'c'; LONGEST]);
+    let question = Question::new(Name { bytes: [b'p'; 32] }, 7, vec![b'c'; raw::CONTENTS]);
     let digits = question.name.bytes.map(|byte| format!("{byte:02x}"));
     assert_eq!(digits.concat(), KNOWN);
 }

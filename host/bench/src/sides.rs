@@ -52,16 +52,6 @@ impl Library {
         library.open(opening);
         library
     }
-
-    /// What it lends for a call.
-    pub fn lent(&mut self) -> Lent<'_> {
-        Lent {
-            counters: &mut self.counters,
-            memory: &mut self.memory,
-            store: &mut self.store,
-            output: &mut self.output,
-        }
-    }
 }
 
 impl Side for Library {
@@ -73,7 +63,12 @@ impl Side for Library {
     }
 
     fn make(&mut self, call: &Call) -> bool {
-        let mut lent = self.lent();
+        let mut lent = Lent {
+            counters: &mut self.counters,
+            memory: &mut self.memory,
+            store: &mut self.store,
+            output: &mut self.output,
+        };
         let reply = match call {
             Call::Record(bytes) => lent.record(bytes),
             Call::Timer(view) => lent.timer(*view),

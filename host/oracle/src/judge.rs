@@ -185,13 +185,18 @@ impl Replica {
         refuse_if(!self.is_turn(), Refusal::Turn)?;
         refuse_if(name == GENESIS, Refusal::Content)?;
         refuse_if(self.held(&name).is_some(), Refusal::Conflicting)?;
+        let placed = self.place(name)?;
+        Self::judge_name(&placed.block, contents)?;
+        refuse_if(self.memory.store.is_full(), Refusal::StoreFull)?;
+        Ok(placed)
+    }
+
+    /// A new block of this name on the safe block of the entry certificate.
+    fn place(&self, name: Name) -> Result<Placed, Refusal> {
         let safe = self.safe_of(&wire::read_progress(self.memory.entry.record()));
         let parent = self.held(&safe.name).ok_or(Refusal::ParentMissing)?;
         let height = parent.height.child().ok_or(Refusal::ParentWrong)?;
-        let block = Block { name, parent: safe.name, height };
-        Self::judge_name(&block, contents)?;
-        refuse_if(self.memory.store.is_full(), Refusal::StoreFull)?;
-        Ok(Placed { safe, block, is_new: true })
+        Ok(Placed { safe, block: Block { name, parent: safe.name, height }, is_new: true })
     }
 
     /// 15 turned round: "not leader, timed ≥ view, voted in it, or view 2^62".
@@ -206,8 +211,7 @@ impl Replica {
     /// The block that propose makes of a name: on the safe block of the entry certificate, if that is held and below 2^62. On a
     /// state that `is_sound`.
     pub fn proposed(&self, name: Name) -> Option<Block> {
-        let parent = self.held(&self.safe_of(&wire::read_progress(self.memory.entry.record())).name)?;
-        Some(Block { name, parent: parent.name, height: parent.height.child()? })
+        self.place(name).ok().map(|placed| placed.block)
     }
 
     /// The held block of this name. 01: "The tip is held."

@@ -18,7 +18,7 @@ pub struct Lie {
     pub equivocates: bool,
 }
 
-/// A name that others have is taken so many times in a thousand, where contents tell.
+/// Where names are made from contents, of a thousand new blocks so many get the name of another one.
 const TAKEN: u32 = 50;
 
 pub struct Adversary {

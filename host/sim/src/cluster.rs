@@ -263,7 +263,7 @@ impl<C: Core> Cluster<C> {
             _ => None,
         };
         for record in brought.into_iter().chain(wire::records(output)) {
-            match (self.ledger.block_in(record), call.contents()) {
+            match (wire::block_of(record), call.contents()) {
                 (Some(_), None) => assert!(!self.is_checked(), "a block was taken without its contents"),
                 (Some(block), Some(contents)) => {
                     let digest = block_name(block.parent, block.height, contents);

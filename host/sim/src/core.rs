@@ -1,6 +1,5 @@
 //! What the simulation asks of a replica.
 
-use oracle::wire::{self, Progress};
 use replica::Contents;
 
 /// One replica as a step machine: calls over bytes and numbers. To save is to clone, to restore is to put the clone
@@ -61,7 +60,7 @@ impl Core for oracle::Replica {
 
     /// It knows the safe block; the library's crate tries those that may be it.
     fn propose_contents(&mut self, contents: &[u8], output: &mut Vec<u8>) -> u16 {
-        let block = next_block(self).unwrap_or(oracle::Block::GENESIS);
+        let block = self.proposed(oracle::GENESIS).unwrap_or(oracle::Block::GENESIS);
         let name = oracle::block_name(block.parent, block.height, contents).unwrap_or(oracle::GENESIS);
         Core::propose_with(self, name, contents, output)
     }
@@ -77,16 +76,6 @@ impl Core for oracle::Replica {
     fn height(&self) -> u64 {
         self.counters.tip.height.0
     }
-}
-
-/// What a proposal would be, but for its name; none where the safe block isn't held.
-fn next_block(replica: &oracle::Replica) -> Option<oracle::Block> {
-    let safe = match wire::read_progress(replica.memory.entry.record()) {
-        Progress::Block(certificate) => certificate.name,
-        Progress::Timeouts(certificate) => replica.protocol().safe_certificate(certificate.timeouts).name,
-    };
-    let parent = replica.held(&safe)?;
-    Some(oracle::Block { name: oracle::GENESIS, parent: safe, height: oracle::Height(parent.height.0 + 1) })
 }
 
 /// The proved library. Its replica isn't to be cloned by a host that runs it; here a clone is a save that is restored.

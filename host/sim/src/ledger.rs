@@ -86,31 +86,16 @@ impl Ledger {
             kind::TIMEOUT => self.made_mut(view).timeouts.push(record.clone()),
             kind::PROPOSAL => {
                 self.made_mut(view).proposals.push(record.clone());
-                self.learn(record);
+                self.accept(record);
             }
             _ => {}
         }
     }
 
-    /// An honest replica accepted this record: "A name's parent and height are those given by an accepted kind 7 or 8".
+    /// An honest replica accepted this record, its own proposal among them: "A name's parent and height are those given by
+    /// an accepted kind 7 or 8".
     pub fn accept(&mut self, record: &[u8]) {
-        self.learn(record);
-    }
-
-    /// The block that a proposal or a block record brings: its name with parent and height.
-    pub fn block_in(&self, record: &[u8]) -> Option<Block> {
-        if record.len() < wire::HEADER || !matches!(wire::kind_of(record), kind::PROPOSAL | kind::BLOCK) {
-            return None; // most records are neither, and needn't be read
-        }
-        match wire::read(record, self.n) {
-            Ok(Record::Proposal(proposal)) => Some(proposal.block),
-            Ok(Record::Block { block, .. }) => Some(block),
-            _ => None,
-        }
-    }
-
-    fn learn(&mut self, record: &[u8]) {
-        if let Some(block) = self.block_in(record) {
+        if let Some(block) = wire::block_of(record) {
             self.blocks.insert(block.name, block);
         }
     }

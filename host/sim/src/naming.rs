@@ -4,8 +4,7 @@
 use std::collections::HashMap;
 use std::rc::Rc;
 
-use oracle::wire::{self, kind};
-use oracle::{Height, Name};
+use oracle::{wire, Block, Height, Name};
 use replica::raw;
 
 use crate::adversary::Adversary;
@@ -14,9 +13,9 @@ use crate::core::Core;
 use crate::coverage::Row;
 use crate::random::Random;
 
-/// Contents that others are given beside a record without a block, so many times in a thousand.
+/// Of a thousand records without a block so many come with contents.
 const BESIDE: u32 = 15;
-/// An own proposal is first made by a wrong name, so many times in a thousand.
+/// Of a thousand own proposals so many are first made by a wrong name.
 const MISNAMED: u32 = 30;
 /// How many contents are tried for a small name.
 const TRIES: usize = 8;
@@ -85,7 +84,7 @@ fn draw(random: &mut Random) -> Rc<[u8]> {
     bytes(length, random)
 }
 
-/// Bytes that no other contents begin with.
+/// So many bytes, the first eight of them drawn.
 fn bytes(length: usize, random: &mut Random) -> Rc<[u8]> {
     let mut contents = vec![0; length];
     let number = random.number().to_le_bytes();
@@ -142,11 +141,11 @@ pub fn hand_in<C: Core>(
     to: usize,
     record: &[u8],
 ) -> Outcome {
-    let contents = match named(record) {
+    let contents = match wire::block_of(record) {
         _ if !cluster.is_checked() => None,
-        Some(name) => {
-            let own = cluster.contents(&name).or_else(|| adversary.naming().contents(&name));
-            note_taken(cluster, record, own.is_some());
+        Some(block) => {
+            let own = cluster.contents(&block.name).or_else(|| adversary.naming().contents(&block.name));
+            note_taken(cluster, &block, own.is_some());
             Some(tampered(cluster, own.unwrap_or_default(), random))
         }
         None if random.chance(BESIDE) => Some(beside(cluster, random)),
@@ -156,16 +155,6 @@ pub fn hand_in<C: Core>(
         Some(contents) => cluster.record_with(to, record, &contents),
         None => cluster.record(to, record),
     }
-}
-
-/// The name of the block that a record brings, whatever its other bytes are.
-fn named(record: &[u8]) -> Option<Name> {
-    let at = match record.len() {
-        48.. if wire::kind_of(record) == kind::PROPOSAL => 16,
-        48.. if wire::kind_of(record) == kind::BLOCK => 8,
-        _ => return None,
-    };
-    Some(wire::name_at(record, at))
 }
 
 /// A block's own contents, or others.
@@ -199,8 +188,7 @@ fn beside<C: Core>(cluster: &mut Cluster<C>, random: &mut Random) -> Rc<[u8]> {
 }
 
 /// A name that the run has given another parent or height, with the contents that it was made of.
-fn note_taken<C: Core>(cluster: &mut Cluster<C>, record: &[u8], has_contents: bool) {
-    let ledger = cluster.ledger();
-    let is_taken = has_contents && ledger.block_in(record).is_some_and(|block| !ledger.permits_block(&block));
+fn note_taken<C: Core>(cluster: &mut Cluster<C>, block: &Block, has_contents: bool) {
+    let is_taken = has_contents && !cluster.ledger().permits_block(block);
     cluster.coverage.add(Row::TakenName, u64::from(is_taken));
 }

@@ -14,6 +14,7 @@ use bench::names;
 use bench::sides::{Library, Oracle, Side};
 use bench::size;
 use oracle::help;
+use replica::raw;
 use streams::{play, Call, Coverage, Kind, Opening};
 
 const USAGE: &str = "\
@@ -104,7 +105,7 @@ fn run_decisive(arguments: &[String]) -> Option<usize> {
 /// The same for the names of blocks.
 fn run_names(arguments: &[String]) -> Option<usize> {
     let [length, rest @ ..] = arguments else { return None };
-    let length = length.parse().ok().filter(|length| *length <= names::LONGEST)?;
+    let length = read_length(length)?;
     let questions = (0..read_runs(rest)?).map(|seed| names::Question::any(length, seed));
     Some(questions.filter(|question| black_box(profiled_name(question))).count())
 }
@@ -112,7 +113,7 @@ fn run_names(arguments: &[String]) -> Option<usize> {
 /// The same for calls that bring a block.
 fn run_contents(arguments: &[String]) -> Option<usize> {
     let [length, kind, way, rest @ ..] = arguments else { return None };
-    let length = length.parse().ok().filter(|length| *length <= names::LONGEST)?;
+    let length = read_length(length)?;
     let kind = contents::Kind::ALL.into_iter().find(|known| format!("{known:?}") == *kind)?;
     let way = Way::ALL.into_iter().find(|known| format!("{known:?}") == *way)?;
     let mut found = 0;
@@ -126,6 +127,10 @@ fn run_contents(arguments: &[String]) -> Option<usize> {
         });
     }
     Some(found)
+}
+
+fn read_length(text: &str) -> Option<usize> {
+    text.parse().ok().filter(|length| *length <= raw::CONTENTS)
 }
 
 fn stream((f, c, k): Settings, seed: u64) -> Calls {
