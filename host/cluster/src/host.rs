@@ -257,7 +257,7 @@ impl Host {
         } else if !self.verifier.verify_all(statements, &incoming.signatures) {
             &mut counts.unsigned
         } else if matches!(record, Record::Proposal(_)) && incoming.block.is_none() {
-            &mut counts.bare // its name couldn't be checked
+            &mut counts.without_contents // its name couldn't be checked
         } else {
             return true;
         };

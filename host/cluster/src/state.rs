@@ -30,15 +30,15 @@ pub struct Counts {
     /// Records with a signature missing or wrong.
     pub unsigned: u64,
     /// Proposals without their block's contents.
-    pub bare: u64,
+    pub without_contents: u64,
     /// Own records that couldn't be sent for want of another's signature: there should be none.
     pub unbacked: u64,
 }
 
 impl Counts {
     fn numbers(&mut self) -> Vec<&mut u64> {
-        let Counts { calls, sent, refused, no_frame, foreign, unsigned, bare, unbacked } = self;
-        [calls, sent, no_frame, foreign, unsigned, bare, unbacked].into_iter().chain(refused).collect()
+        let Counts { calls, sent, refused, no_frame, foreign, unsigned, without_contents, unbacked } = self;
+        [calls, sent, no_frame, foreign, unsigned, without_contents, unbacked].into_iter().chain(refused).collect()
     }
 
     pub fn add(&mut self, mut other: Counts) {

@@ -383,7 +383,7 @@ impl fmt::Display for Summary {
             let point = kill.point.map_or("at any time", Point::word);
             writeln!(f, "killed: {point}, down for {} ms", kill.down.as_millis())?;
         }
-        let Counts { calls, sent, refused, no_frame, foreign, unsigned, bare, unbacked } = &self.counts;
+        let Counts { calls, sent, refused, no_frame, foreign, unsigned, without_contents, unbacked } = &self.counts;
         writeln!(f, "calls accepted: {calls}, records sent: {sent}, not to be sent: {unbacked}")?;
         writeln!(f, "signed by honest replicas, one of a kind and view, and saved: {}", self.promises)?;
         let numbers = (0..).zip(refused).filter(|(_, count)| **count > 0);
@@ -391,7 +391,7 @@ impl fmt::Display for Summary {
         writeln!(f, "refused by number: {}", numbers.join(", "))?;
         write!(
             f,
-            "not handed in: unsigned {unsigned}, from another {foreign}, without contents {bare}, no frame {no_frame}"
+            "not handed in: unsigned {unsigned}, from another {foreign}, without contents {without_contents}, no frame {no_frame}"
         )
     }
 }

@@ -29,7 +29,7 @@ fn all_honest() {
     assert_eq!(summary.standings.len(), usize::from(N));
     assert!(summary.standings.iter().all(|standing| standing.releases >= 10), "{summary}");
     let counts = &summary.counts;
-    assert_eq!([counts.unsigned, counts.foreign, counts.bare, counts.no_frame, counts.unbacked], [0; 5]);
+    assert_eq!([counts.unsigned, counts.foreign, counts.without_contents, counts.no_frame, counts.unbacked], [0; 5]);
     assert_eq!(counts.refused[16..], [0; 2], "honest hosts hand on the contents that a name is made of");
 }
 

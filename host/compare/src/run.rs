@@ -80,9 +80,9 @@ pub fn compare_run(run: Run, calls: usize, faults: Faults, tally: &mut Tally) ->
         steps.push(script.next(pair.expected.replica.as_ref()));
         let step = &steps[steps.len() - 1];
         let before = pair.expected.replica.as_ref().map(|replica| replica.counters);
-        let meeting = pair.expected.replica.as_ref().and_then(|replica| step.meeting(replica));
+        let case = pair.expected.replica.as_ref().and_then(|replica| step.contents_case(replica));
         match pair.step(step) {
-            Ok(reply) => tally.count(step, reply, before, meeting, &pair.expected),
+            Ok(reply) => tally.count(step, reply, before, case, &pair.expected),
             Err(_) => return Err(shortest(run, steps, faults)),
         }
     }

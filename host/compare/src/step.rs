@@ -4,7 +4,7 @@ use std::fmt;
 use std::str::FromStr;
 
 use oracle::Replica;
-use streams::{Call, Meeting};
+use streams::{Call, ContentsCase};
 
 #[derive(Clone, Debug, PartialEq, Eq)]
 pub enum AnyCall {
@@ -21,11 +21,11 @@ pub struct Step {
 }
 
 impl Step {
-    /// How contents meet the call, if it is made.
-    pub(crate) fn meeting(&self, replica: &Replica) -> Option<Meeting> {
+    /// The case of the contents that come with a block.
+    pub(crate) fn contents_case(&self, replica: &Replica) -> Option<ContentsCase> {
         match &self.call {
             AnyCall::Open(..) => None,
-            AnyCall::Call(call) => Meeting::of(replica, call),
+            AnyCall::Call(call) => ContentsCase::of(replica, call),
         }
     }
 }

@@ -3,7 +3,7 @@
 use std::fmt;
 
 use oracle::{answer, Counters, Leaders, Refusal, Reply, Settings, CONTENTS};
-use streams::{reachable, Coverage, Kind, Meeting, Path, Row};
+use streams::{reachable, ContentsCase, Coverage, Kind, Path, Row};
 
 use crate::expected::Expected;
 use crate::step::{AnyCall, Step};
@@ -22,13 +22,13 @@ pub struct Tally {
 }
 
 impl Tally {
-    /// Counts a call that both sides made alike, and how contents met it.
+    /// Counts a call that both sides made alike, and the contents that it came with.
     pub fn count(
         &mut self,
         step: &Step,
         reply: Reply,
         before: Option<Counters>,
-        meeting: Option<Meeting>,
+        case: Option<ContentsCase>,
         after: &Expected,
     ) {
         let call = match &step.call {
@@ -42,7 +42,7 @@ impl Tally {
             (Some(replica), Some(before)) if reply != Err(Refusal::Regions) => {
                 let output = &after.rooms.output[..reply.unwrap_or(0)];
                 self.calls.count(call, reply, &before, replica, output);
-                self.calls.meet(meeting);
+                self.calls.count_contents(case);
             }
             _ => {
                 self.calls.count_refused(call, Refusal::Regions);
@@ -80,11 +80,11 @@ impl Tally {
         self.calls.unlisted(&pairs())
     }
 
-    /// Ways in which right or wrong contents met no call; lent states add one to those of streams.
-    pub fn missing_meetings(&self) -> Vec<Meeting> {
-        let lent = Meeting { kind: Kind::Propose, right: false, plain: 13 };
-        let mut missing = self.calls.missing_meetings();
-        missing.extend(Some(lent).filter(|lent| self.calls.of_meeting(*lent) == 0));
+    /// Cases of contents that didn't come up; lent states add one to those of streams.
+    pub fn missing_cases(&self) -> Vec<ContentsCase> {
+        let lent = ContentsCase { kind: Kind::Propose, right: false, plain: 13 };
+        let mut missing = self.calls.missing_cases();
+        missing.extend(Some(lent).filter(|lent| self.calls.of_case(*lent) == 0));
         missing
     }
 

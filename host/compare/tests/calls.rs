@@ -2,7 +2,7 @@
 
 use compare::{compare_part, Kind, Tally};
 use oracle::Faults;
-use streams::{Kind as Call, Meeting, Path, Row};
+use streams::{ContentsCase, Kind as Call, Path, Row};
 
 /// What 02, 2.2 added: settings that 01's bound kept out, a cluster of one among them, and rules that run in one call there.
 const WITH_EVERY_K: [Path; 6] = [
@@ -44,7 +44,7 @@ fn compare_half(kind: Kind) -> Tally {
 fn library_and_oracle_agree_from_openings() {
     let tally = compare_half(Kind::Opened);
     assert_eq!(tally.missing(), [(Row::Plain(Call::Propose), 13), (Row::With(Call::Propose), 13)]);
-    assert_eq!(tally.missing_meetings(), [Meeting { kind: Call::Propose, right: false, plain: 13 }]);
+    assert_eq!(tally.missing_cases(), [ContentsCase { kind: Call::Propose, right: false, plain: 13 }]);
     assert_eq!(tally.missing_paths(), [Path::LedByNobody]);
 }
 
@@ -53,6 +53,6 @@ fn library_and_oracle_agree_from_openings() {
 fn library_and_oracle_agree_from_garbage() {
     let tally = compare_half(Kind::Garbage);
     assert_eq!(tally.missing(), []);
-    assert_eq!(tally.missing_meetings(), []);
+    assert_eq!(tally.missing_cases(), []);
     assert_eq!(tally.missing_paths(), []);
 }

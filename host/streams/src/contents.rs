@@ -194,7 +194,7 @@ impl Contents {
     }
 }
 
-/// Whether nothing is known under a name.
+/// Whether a block of this name isn't held, and may come.
 fn is_fresh(name: Name, replica: &Replica) -> bool {
     name != GENESIS && replica.held(&name).is_none()
 }

@@ -6,7 +6,7 @@ use std::fmt;
 use oracle::{answer, wire, Leaders, Refusal, Replica, Reply};
 
 use crate::call::Call;
-use crate::meeting::Meeting;
+use crate::case::ContentsCase;
 
 /// Kinds of records that a replica knows, its other calls, and all other slices.
 #[derive(Clone, Copy, Debug, PartialEq, Eq, PartialOrd, Ord)]
@@ -202,12 +202,12 @@ impl Path {
 /// One more than the highest answer.
 const ANSWERS: usize = 18;
 
-/// Counts of (row, answer) pairs, of paths, and of how contents met calls.
+/// Counts of (row, answer) pairs, of paths, and of right and wrong contents by the answer without them.
 #[derive(Clone, Debug, Default)]
 pub struct Coverage {
     answers: [[u64; ANSWERS]; Row::COUNT],
     paths: [u64; Path::ALL.len()],
-    meetings: BTreeMap<Meeting, u64>,
+    cases: BTreeMap<ContentsCase, u64>,
 }
 
 impl Coverage {
@@ -253,10 +253,10 @@ impl Coverage {
         self.answers[Row::of(call).index()][usize::from(refusal.number())] += 1;
     }
 
-    /// Counts how contents met a call.
-    pub fn meet(&mut self, meeting: Option<Meeting>) {
-        if let Some(meeting) = meeting {
-            *self.meetings.entry(meeting).or_default() += 1;
+    /// Counts contents that came with a block.
+    pub fn count_contents(&mut self, case: Option<ContentsCase>) {
+        if let Some(case) = case {
+            *self.cases.entry(case).or_default() += 1;
         }
     }
 
@@ -264,8 +264,8 @@ impl Coverage {
         self.answers[row.index()][usize::from(answer)]
     }
 
-    pub fn of_meeting(&self, meeting: Meeting) -> u64 {
-        self.meetings.get(&meeting).copied().unwrap_or(0)
+    pub fn of_case(&self, case: ContentsCase) -> u64 {
+        self.cases.get(&case).copied().unwrap_or(0)
     }
 
     pub fn of_path(&self, path: Path) -> u64 {
@@ -295,9 +295,9 @@ impl Coverage {
         all.filter(|pair| self.of(pair.0, pair.1) > 0 && !listed.contains(pair)).collect()
     }
 
-    /// Reachable ways in which contents met no call.
-    pub fn missing_meetings(&self) -> Vec<Meeting> {
-        Meeting::reachable().into_iter().filter(|meeting| self.of_meeting(*meeting) == 0).collect()
+    /// Reachable cases of contents that didn't come up.
+    pub fn missing_cases(&self) -> Vec<ContentsCase> {
+        ContentsCase::reachable().into_iter().filter(|case| self.of_case(*case) == 0).collect()
     }
 
     /// Paths that no call took.
@@ -400,7 +400,7 @@ impl fmt::Display for Coverage {
         write_line(f, "answer without contents", u64::from)?;
         for kind in Kind::ALL.into_iter().filter(|kind| kind.brings_block()) {
             for (title, right) in [("right", true), ("wrong", false)] {
-                let count = |plain| self.of_meeting(Meeting { kind, right, plain });
+                let count = |plain| self.of_case(ContentsCase { kind, right, plain });
                 write_line(f, &format!("{kind:?}, {title} contents"), count)?;
             }
         }

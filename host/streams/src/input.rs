@@ -3,8 +3,8 @@
 use oracle::{run, wire, Refusal, Replica};
 
 use crate::call::Call;
+use crate::case::ContentsCase;
 use crate::coverage::Coverage;
-use crate::meeting::Meeting;
 use crate::opening::Opening;
 use crate::random::Random;
 use crate::stream::Stream;
@@ -29,7 +29,7 @@ pub fn play_stream(opening: Opening, mut stream: Stream, count: usize, coverage:
     for _ in 0..count {
         let call = stream.next(&replica);
         let before = replica.counters;
-        coverage.meet(Meeting::of(&replica, &call));
+        coverage.count_contents(ContentsCase::of(&replica, &call));
         out.clear();
         let reply = call.make(&mut replica, &mut out);
         coverage.count(&call, reply, &before, &replica, &out);

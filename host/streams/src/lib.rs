@@ -2,6 +2,7 @@
 //! refusal, rule and limit comes up. Two more kinds of streams are for the calls that touch no replica.
 
 mod call;
+mod case;
 mod contents;
 mod coverage;
 mod decisive;
@@ -10,7 +11,6 @@ mod good;
 mod input;
 mod leaders;
 mod lent;
-mod meeting;
 mod name;
 mod opening;
 mod random;
@@ -18,13 +18,13 @@ mod spoil;
 mod stream;
 
 pub use call::Call;
+pub use case::ContentsCase;
 pub use coverage::{reachable, Coverage, Kind, Path, Row, UNREACHABLE};
 pub use decisive::{Decided, DecisiveAnswer, DecisiveCall, DecisiveCoverage, DecisiveStream, Outcome};
 pub use garbage::garbage;
 pub use good::of_any_count;
 pub use input::{input, play, play_stream, Played};
 pub use lent::{garbage_rooms, lent_input, scatter, LentCoverage};
-pub use meeting::Meeting;
 pub use name::{NameAnswer, NameCall, NameStream};
 pub use opening::Opening;
 pub use random::Random;

@@ -3,19 +3,19 @@
 use std::collections::{BTreeMap, BTreeSet};
 
 use oracle::{answer, wire, Name, Replica, CONTENTS};
-use streams::{garbage, play, Call, Coverage, Kind, Meeting, Opening, Random, Stream};
+use streams::{garbage, play, Call, ContentsCase, Coverage, Kind, Opening, Random, Stream};
 
-/// Makes the call and compares it: 16 comes first; beside a block the answer follows from how they meet; beside others it is
+/// Makes the call and compares it: 16 comes first; beside a block the answer follows from the case; beside others it is
 /// that of the plain call. What is accepted does what the plain call does.
 fn compare(replica: &mut Replica, call: &Call) -> u16 {
     let (mut plain, mut plain_out) = (replica.clone(), Vec::new());
     let plain_reply = call.without_contents().make(&mut plain, &mut plain_out);
-    let meeting = Meeting::of(replica, call);
+    let case = ContentsCase::of(replica, call);
     let mut out = Vec::new();
     let reply = call.make(replica, &mut out);
     let expected = match call.contents() {
         Some(contents) if contents.len() > CONTENTS => 16,
-        _ => meeting.map_or(answer(plain_reply), Meeting::answer),
+        _ => case.map_or(answer(plain_reply), ContentsCase::answer),
     };
     assert_eq!(answer(reply), expected, "{call:?}");
     assert!(reply.is_err() || (reply == plain_reply && *replica == plain && out == plain_out));

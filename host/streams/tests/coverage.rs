@@ -11,7 +11,7 @@ fn every_reachable_answer_and_path_comes_up() {
     println!("{coverage}");
     assert_eq!(coverage.missing(&reachable()), [], "reachable pairs (row, answer)");
     assert_eq!(coverage.unlisted(&reachable()), [], "pairs that the papers don't have");
-    assert_eq!(coverage.missing_meetings(), [], "right and wrong contents, by what the call answers without them");
+    assert_eq!(coverage.missing_cases(), [], "right and wrong contents, by what the call answers without them");
     assert_eq!(coverage.missing_paths(), [Path::LedByNobody], "opening refuses such a list");
     for (path, times) in [
         (Path::NoByzantine, 10_000),

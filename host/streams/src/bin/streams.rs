@@ -88,7 +88,7 @@ fn print_coverage(first: u64, count: u64, calls: usize) {
     }
     println!("{coverage}");
     println!("not reached: {:?} {:?}", coverage.missing(&reachable()), coverage.missing_paths());
-    println!("contents not met: {:?}", coverage.missing_meetings());
+    println!("contents not reached: {:?}", coverage.missing_cases());
     for (call, answer, reason) in UNREACHABLE {
         println!("unreachable: {call} {answer}: {reason}");
     }
