@@ -9,6 +9,9 @@ use crate::record::{leader_after, u16_at, Progress, Receiver, Record};
 use crate::refusal::Refusal;
 use crate::types::{Block, Certificate, Counters, Name, Settings, View, Vote};
 
+/// A name that is no digest of contents that anyone knows.
+const UNUSED: Name = Name { bytes: [0xFF; 32] };
+
 /// One replica: its state and the output of its last call.
 ///
 /// It can't be cloned: two that go on from one state may vote twice. A host that stops and resumes uses [`Replica::save`]
@@ -171,7 +174,8 @@ impl Replica {
     ///
     /// The safe block is held and named in the entry certificate, or the call is refused by [`Refusal::ParentMissing`]. The
     /// name is made on each block that may be it, and the library takes the one that is right: on any other block it isn't
-    /// the digest, and a refused call changes nothing. A block that is held already is refused by [`Refusal::Conflicting`].
+    /// the digest, and a refused call changes nothing. If the safe block is held and so is the block that these contents make
+    /// on it, the refusal is [`Refusal::Conflicting`].
     ///
     /// ```
     /// use replica::{Contents, Content, Refusal, Replica, Settings};
@@ -187,18 +191,19 @@ impl Replica {
     /// # Ok::<(), Refusal>(())
     /// ```
     pub fn propose_contents(&mut self, contents: Contents<'_>) -> Result<(Name, Accepted<'_>), Refusal> {
-        let mut refusal = Refusal::NameWrong;
         for parent in self.possible_parents() {
             // Of contents that are too long the name is zero, and the call refuses them in its own order.
             let name = raw::name(parent.name, parent.height.0.wrapping_add(1), contents.0).name;
             let reply = self.lent().propose_with(name, contents.0);
-            match accept(reply) {
-                Err(Refusal::NameWrong) => {}
-                Err(Refusal::Conflicting) => refusal = Refusal::Conflicting,
-                _ => return self.accepted(reply).map(|accepted| (name, accepted)),
+            if !matches!(accept(reply), Err(Refusal::NameWrong | Refusal::Conflicting)) {
+                return self.accepted(reply).map(|accepted| (name, accepted));
             }
         }
-        Err(refusal)
+        // What they make on the safe block is held, or that block is missing: another name says which.
+        match self.propose_with(UNUSED, contents) {
+            Err(Refusal::NameWrong) => Err(Refusal::Conflicting),
+            reply => reply.map(|accepted| (UNUSED, accepted)),
+        }
     }
 
     /// Held blocks that the entry certificate names, the highest first: its safe block is one of them, if it is held. If none

@@ -243,6 +243,29 @@ fn a_held_name_on_another_block_is_passed_over() {
     assert_eq!(name, child(&replica::Block::default(), OTHER).name);
 }
 
+/// Two timeouts of four give a block as high vote, which is safe and isn't held. What the contents make on genesis is held:
+/// the safe block is missing all the same.
+#[test]
+fn a_held_name_does_not_hide_that_the_safe_block_is_missing() {
+    let (_, proposal) = proposal_by(&mut open(0), TITLE);
+    let mut leader = open(1);
+    let held = child(&leader.tip(), OTHER);
+    assert!(leader.record_with(&block_record(&held), OTHER).is_ok());
+    assert!(leader.timer(replica::View(1)).is_ok());
+    for own in 2..5 {
+        let mut other = open(own);
+        if own < 4 {
+            assert!(other.record_with(&proposal, TITLE).is_ok());
+        }
+        let timeout = first(other.timer(replica::View(1)).expect("accepted"));
+        assert!(leader.record(&timeout).is_ok());
+    }
+    assert_eq!(leader.view(), replica::View(2));
+    let before = leader.save();
+    assert_eq!(leader.propose_contents(OTHER).err(), Some(Refusal::ParentMissing));
+    assert!(leader.save() == before);
+}
+
 #[test]
 fn seventeen_comes_before_fourteen() {
     let mut leader = open(0);

@@ -2,7 +2,9 @@
 //! each record that is written says what the oracle reads in it.
 
 use oracle::{wire, Leaders};
-use replica::{Accepted, Content, Contents, Name, Progress, Receiver, Record, Refusal, Replica, Settings, Timeout, View};
+use replica::{
+    Accepted, Content, Contents, Name, Progress, Receiver, Record, Refusal, Replica, Settings, Timeout, View,
+};
 use streams::{play_stream, Call, Coverage, Opening, Stream};
 
 fn open(opening: Opening) -> Replica {
