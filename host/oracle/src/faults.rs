@@ -42,7 +42,7 @@ impl Faults {
         misreading: None,
     };
 
-    /// The names under which `set` knows the flags. A misreading is none: where no contents come it changes nothing.
+    /// The names under which `set` knows the flags. A misreading has none: the run program takes no contents.
     pub const NAMES: [&'static str; 11] = [
         "p-from-c-k-2",
         "weak-over-block",
