@@ -75,11 +75,12 @@ fn higher(one: Depths, two: Depths) -> Depths {
     std::array::from_fn(|i| one[i].max(two[i]))
 }
 
-/// Prints the depths of the kinds that were called; none is over the bound.
-fn within_bound(title: &str, deepest: Depths) {
+/// Prints the depths of the kinds that were called, so many; none is over the bound.
+fn within_bound(title: &str, kinds: usize, deepest: Depths) {
     let called: Vec<_> = CALLS.into_iter().zip(deepest).filter(|(_, depth)| *depth > 0).collect();
     println!("{title}: {called:?} bytes of stack");
-    assert!(!called.is_empty() && called.iter().all(|(_, depth)| *depth <= BOUND));
+    assert_eq!(called.len(), kinds);
+    assert!(called.iter().all(|(_, depth)| *depth <= BOUND));
 }
 
 /// The same call with the longest contents, if it takes any: those of the block that it proposes.
@@ -205,8 +206,7 @@ fn stack_of_runs() {
             deepest = higher(deepest, on_a_thread(move || depths(run.start(), steps)));
         }
     }
-    within_bound("runs", deepest);
-    assert!(deepest.iter().all(|&depth| depth > 0));
+    within_bound("runs", CALLS.len(), deepest);
 }
 
 /// The depth of a call that releases up to this height at least, without contents and with.
@@ -237,7 +237,7 @@ fn depths_of_releases(title: &str, held: fn(u64) -> Vec<u64>, lent: fn(Rooms, us
             deepest = higher(deepest, depth_of_release(rooms, step, below.min(125)));
         }
     }
-    within_bound(title, deepest);
+    within_bound(title, CALLS.len() - 1, deepest); // all but open
 }
 
 #[test]
@@ -283,7 +283,7 @@ fn stack_of_the_longest_search() {
         ] {
             deepest = higher(deepest, depth_of_release(many_lacking_names(settings, blocks), step, blocks));
         }
-        within_bound(&format!("many decided names, {settings:?}"), deepest);
+        within_bound(&format!("many decided names, {settings:?}"), CALLS.len() - 1, deepest);
     }
 }
 
@@ -300,7 +300,11 @@ fn stack_of_a_long_search_from_an_opening() {
             assert_eq!(oracle.step(&commit(sender, view, lacking(sender as u8 + 1))), Ok(0));
         }
     }
-    within_bound("many decided names from an opening", depth_of_release(oracle.rooms, commit(31, 8, name(128)), 128));
+    within_bound(
+        "many decided names from an opening",
+        2,
+        depth_of_release(oracle.rooms, commit(31, 8, name(128)), 128),
+    );
 }
 
 /// The most releases in one call: each block of the chain is decided by a commit of its own.
@@ -310,7 +314,7 @@ fn stack_of_many_releases() {
     let rooms = many_decided_names([0, 0, 31], &chain_and_one_apart(128), |view, replica| {
         [lacking(1), committed(view, replica)]
     });
-    within_bound("many releases", depth_of_release(rooms, step(AnyCall::Call(Call::Timer(5))), 127));
+    within_bound("many releases", 1, depth_of_release(rooms, step(AnyCall::Call(Call::Timer(5))), 127));
 }
 
 /// The deepest of these calls.
