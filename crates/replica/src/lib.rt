@@ -1,8 +1,9 @@
-// The replica: open, record, timer and propose on lent counters, memory, store and output; and two calls that have no replica: that of 02, 2.3, over settings and a record,
-// and the name of a block (02, 2.5).
+// The replica: open, record, timer and propose on lent counters, memory, store and output, record and propose also with contents (02, 2.5); and two calls that have no replica: that of 02, 2.3,
+// over settings and a record, and the name of a block (02, 2.5).
 // Promises: each call, on any content and length of what is lent and with any input, replies and leaves what `openingCall`, `recordCall`, `timerCall` and
-// `proposeCall` of `protocol` say, with the leader by the list that was opened with, of which demand 3 speaks; `hydrangea_decisive` answers what `decisiveCall` of `decisive` says, and `hydrangea_name` what `nameCall` of `digest` says.
-// No public function has a `requires`. Rests on `judge`, `perform`, `release`, `decisive` and `digest`; the calls have no branch.
+// `proposeCall` of `protocol` say, and with contents `recordCallWith` and `proposeCallWith`, with the leader by the list that was opened with, of which demand 3 speaks; `hydrangea_decisive` answers what `decisiveCall` of `decisive` says,
+// and `hydrangea_name` what `nameCall` of `digest` says. No public function has a `requires`. Rests on `judge`, `perform`, `release`, `decisive` and `digest`; the calls without contents have no branch, and those with contents
+// one: they end in the calls without, or are refused.
 // They are exported by their own names, hence the prefix: a library that exports `open` would take the place of the C library's.
 use act::Draft;
 use blocks::Block;
