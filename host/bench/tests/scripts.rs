@@ -93,6 +93,7 @@ fn tables_as_markdown_are_those_of_the_document() {
     let document = &document[first.expect("the first table")..behind.expect("what follows the tables")];
     let kinds = kinds::table(&kinds::measure(6000, 1));
     let [size, held, timeouts] = [size::measure(1), held::measure(1), timeouts::measure(1)];
-    let tables = [kinds, size, held, timeouts, decisive::measure(1), releases::measure(1), names::measure(1)];
+    let [decisive, releases, names] = [decisive::measure(1), releases::measure(1), names::measure(1)];
+    let tables = [kinds, size, held, timeouts, decisive, releases, names, contents::measure(1)];
     assert_eq!(forms(&tables.each_ref().map(markdown::section).concat()), forms(document));
 }
