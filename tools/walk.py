@@ -166,6 +166,7 @@ def plainly(name): return name.strip('«»').replace('_', '-')
 def types_file(crate, fields, kit, at):
     """a crate's Types.antt: of each struct of plain data its row, its MIR type, its `Data`, and the relation of each field"""
     T = Types(crate, fields)
+    homes = dict(x.split('=') for x in at.others if '=' in x)
     left, mine = [q for q in fields if q.split('::')[0] in [crate] + at.others], []
     while left:
         q = next(q for q in left if not any(T.kind(t) == 'tyNamed' and t[1][1].strip('"') in left for _, t in fields[q]))
@@ -196,7 +197,7 @@ abbrev pub {n}ᴰ : Data {n}ᴿ
     widths = ''.join(f', {w}' for w in ('w16', 'w32') if w in words)
     uses = [f'use Rattle.{kit}.proofs.Walk.LL', f'use mir.Syntax.{{Ty{widths}}}', 'use denote.RattleType.{RattleType}',
         f'use Rattle.{kit}.proofs.Data.{{{", ".join(n for n in ("Data", "At", "again", "word", "byte", "num", "flag", "nil", "bytes", "struct", "field-bytes") if n in words)}}}']
-    for q in [x for x in T.used if x not in mine]: uses.append(f'use Rattle.{q.split("::")[0]}.proofs.Types.{{{q.split("::")[1]}ᴰ}}')
+    for q in [x for x in T.used if x not in mine]: uses.append(f'use Rattle·{homes.get(q.split("::")[0], q.split("::")[0])}.proofs.Types.{{{q.split("::")[1]}ᴰ}}')
     for q in mine:
         c, n = q.split('::')
         s, m = (f'{c}·specs.specs', f'{c}·proofs.proofs') if c == crate else (f'{c}.specs', f'{c}.proofs')
@@ -669,7 +670,7 @@ def main():
     ap = argparse.ArgumentParser(description=__doc__, formatter_class=argparse.RawDescriptionHelpFormatter)
     for x in ('mir', 'desc', 'kit', 'out'): ap.add_argument('--' + x, required=x != 'desc')
     ap.add_argument('--src', nargs='+', required=True, help='CRATE=FILE')
-    ap.add_argument('--others', nargs='*', default=[], help='with --types: other crates whose structs are to stand there too')
+    ap.add_argument('--others', nargs='*', default=[], help='with --types: other crates whose structs are to stand there too; CRATE=OTHER: its structs are taken from the Types.antt of OTHER')
     ap.add_argument('--types', help='CRATE: write its Types.antt, with --kit the name of the crate of the shared modules; --desc is not read')
     a = ap.parse_args()
     d = a.types or described(a.desc)

@@ -3,19 +3,14 @@
     'like': 'hydrangea_calls',
     'params': ['cs', 'm', 'ys', 'out', 'name'],
     'callees': {
-        'judge::propose': {'ens': '(s : List Block) → length s ≡ {2} → r ≡ proposeWant (lent {0} {1} s) {3} {4}'},
-        'blocks::held': {'ens': 'r ≡ heldOf {2} (take {1} {0}) {3}'},
-        'perform::propose': {'req': 'yes', 'ens': 'Performs (proposeNumber (length {2}) {3}) (onPropose {3}) (ProposeFound (length {2}) {3} {4} {5} {6}) {0} {1} {2} r {w1} {w2}'},
+        'replica::propose_judged': {'ens': '({w0} ≡ {0}) × Judges (proposeNumber {3} ({4} .bytes)) (Proposable ({4} .bytes) (r .below .0)) (r .accepted) (r .refusal) (lent {0} {1} {2})'},
+        'replica::propose_answered': {'req': 'yes', 'ens': 'replied r {w0} {w1} {w2} {w3} ≡ repliedBy (proposeCall byList (lentTo {0} {1} {2}) {3} ({4} .bytes))'},
     },
-    'asks': [
-        '(record { store = ys; given = record { want = e0 ys refl; found = e1; under = e2 } })',
-        '(concludes ys e3)',
-    ],
-    'says': [
-        '(propose-is cs m out ys (ys-room .0) r3 _ _ r4 _ _ _ e4 r5 e5 (name .bytes) r0 r1 r2 (record { want = e0 ys refl; found = e1; under = e2 }) e3)',
-    ],
+    'asks': ['(still-judged (e0 .0) m ys (e0 .1))'],
+    'says': ['(e1 ∙ ap (λ (c : Counters). repliedBy (proposeCall byList (lentTo c m ys) out (name .bytes))) (e0 .0))'],
     'spec': {
-        'Rattle.blocks.specs.Store': ['held as heldOf'],
-        'Rattle.replica.proofs.Calling': ['propose-is'],
+        'mathlib.Core.Path': ['ap', '_∙_'],
+        'Rattle.counters.specs.declared.Counters': ['Counters'],
+        'Rattle.replica.proofs.Calling': ['still-judged'],
     },
 }

@@ -3,19 +3,14 @@
     'like': 'hydrangea_calls',
     'params': ['cs', 'm', 'ys', 'out', 'rec'],
     'callees': {
-        'judge::record': {'ens': '(s : List Block) → length s ≡ {2} → r ≡ recordWant (lent {0} {1} s) {3} {4}'},
-        'blocks::held': {'ens': 'r ≡ heldOf {2} (take {1} {0}) {3}'},
-        'perform::record': {'req': 'yes', 'ens': 'Performs (recordNumber (length {2}) {3}) (onRecord {3} (content {3})) (RecordFound (length {2}) {3} {4} {5} {6}) {0} {1} {2} r {w1} {w2}'},
+        'replica::record_judged': {'ens': '({w0} ≡ {0}) × Judges (recordNumber {3} {4}) (Asked {4} (r .held)) (r .accepted) (r .refusal) (lent {0} {1} {2})'},
+        'replica::record_answered': {'req': 'yes', 'ens': 'replied r {w0} {w1} {w2} {w3} ≡ repliedBy (recordCall byList (lentTo {0} {1} {2}) {3} {4})'},
     },
-    'asks': [
-        '(record { store = ys; given = record { want = e0 ys refl; found = e1; under = e2 } })',
-        '(concludes ys e3)',
-    ],
-    'says': [
-        '(record-is cs m out ys (ys-room .0) r3 _ _ r4 _ _ _ e4 r5 e5 rec r0 r1 r2 (record { want = e0 ys refl; found = e1; under = e2 }) e3)',
-    ],
+    'asks': ['(still-judged (e0 .0) m ys (e0 .1))'],
+    'says': ['(e1 ∙ ap (λ (c : Counters). repliedBy (recordCall byList (lentTo c m ys) out rec)) (e0 .0))'],
     'spec': {
-        'Rattle.blocks.specs.Store': ['held as heldOf'],
-        'Rattle.replica.proofs.Calling': ['record-is'],
+        'mathlib.Core.Path': ['ap', '_∙_'],
+        'Rattle.counters.specs.declared.Counters': ['Counters'],
+        'Rattle.replica.proofs.Calling': ['still-judged'],
     },
 }

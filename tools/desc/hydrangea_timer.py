@@ -4,17 +4,14 @@
     'params': ['cs', 'm', 'ys', 'out', 'v'],
     'callees': {
         'replica::view_of': {'ens': 'r .0 ≡ {0}'},
-        'judge::timer': {'ens': '(s : List Block) → length s ≡ {2} → r ≡ firstOf (regionRules (lent {0} {1} s) {3} then timerRules (lent {0} {1} s) ({4} .0))'},
-        'perform::timer': {'req': 'yes', 'ens': 'Performs (timerNumber (length {2}) ({4} .0)) (onTimer ({4} .0)) (TimerJudged (length {2}) ({4} .0) {3}) {0} {1} {2} r {w1} {w2}'},
+        'replica::timer_judged': {'ens': '({w0} ≡ {0}) × ((s : List Block) → length s ≡ {2} → r ≡ timerNumber {3} ({4} .0) (lent {0} {1} s))'},
+        'replica::timer_answered': {'req': 'yes', 'ens': 'replied r {w0} {w1} {w2} {w3} ≡ repliedBy (timerCall (lentTo {0} {1} {2}) {3} ({4} .0))'},
+        'replica::passes': {'ens': 'r ≡ eqb {0} 0'},
     },
-    'asks': [
-        '(record { store = ys; given = timer-judged (length out) (r0 .0) r1 (lent cs m ys) (e1 ys refl) })',
-        '(concludes ys e2)',
-    ],
-    'says': [
-        '(timer-is cs m out ys (ys-room .0) r2 _ _ r3 _ _ _ e3 r4 e4 (r0 .0) r1 (timer-judged (length out) (r0 .0) r1 (lent cs m ys) (e1 ys refl)) e2 ∙ ap (λ (z : ℕ). repliedBy (timerCall (lentTo cs m ys) out z)) e0)',
-    ],
+    'asks': ['(e2, e1 .1 ys refl ∙ ap (λ (c : Counters). timerNumber (length out) (r0 .0) (lent c m ys)) (sym (e1 .0)))'],
+    'says': ['(e3 ∙ ap (λ (c : Counters). repliedBy (timerCall (lentTo c m ys) out (r0 .0))) (e1 .0) ∙ ap (λ (z : ℕ). repliedBy (timerCall (lentTo cs m ys) out z)) e0)'],
     'spec': {
-        'Rattle.replica.proofs.Calling': ['timer-is', 'timer-judged'],
+        'mathlib.Core.Path': ['sym', 'ap', '_∙_'],
+        'Rattle.counters.specs.declared.Counters': ['Counters'],
     },
 }

@@ -2,6 +2,7 @@
 use Prim.Native.Nat.{ℕ}
 use mathlib.Core.List.{List, [], _∷_}
 use denote.Laws.{Is}
+use mir.Val.{Val}
 use Rattle.codec.proofs.Arrays.{array-bytes}
 use Rattle.walks.proofs.Walk.LL
 use Rattle.walks.proofs.Data.{Data, At, again, word, bytes, struct}
@@ -12,7 +13,7 @@ use Rattle.blocks.specs.declared.Block.{Block}
 use Rattle.blocks.proofs.Types.{Blockᴰ, Block-name, Block-parent, Block-height, Height-0}
 use Rattle.counters.specs.declared.Signed.{Signed}
 use Rattle.counters.specs.declared.Counters.{Counters}
-use Rattle.counters.proofs.Types.{Viewᴰ, View-0, Voteᴰ, Vote-view, Vote-name, Signedᴰ, Signed-view, Signed-name, Signed-signers, Countersᴰ, Counters-view, Counters-timed, Counters-high, Counters-lock, Counters-weak, Counters-tip}
+use Rattle.counters.proofs.Types.{Viewᴰ, View-0, Voteᴰ, Vote-view, Vote-name, Signedᴰ, Signed-view, Signed-name, Signed-signers, Countersᴿ, Countersᴰ, Counters-view, Counters-timed, Counters-high, Counters-lock, Counters-weak, Counters-tip}
 use Rattle.protocol.specs.Typed.{VoteTyped, SignedTyped, BlockTyped, CountersTyped}
 use Rattle.act.specs.declared.Draft.{Draft}
 use Rattle.act.proofs.Draft as Draftᵐ
@@ -49,6 +50,10 @@ counters x is =
 
 abbrev Draftᴰ : Data Draftᵐ.the-row
 Draftᴰ = struct Draftᵐ.the-type Draft′.the-laws Draft′.the-plain Draft′.lowers
+
+-- of counters that a function is handed
+pub counters-typed : (c : Counters) (v : Val) → Is Countersᴿ c (v ∷ []) → CountersTyped c
+counters-typed c v is = counters c (again Countersᴰ c v is)
 
 -- of a draft that a function is handed
 pub draft-typed : (d : Draft) → Is Draftᵐ.the-row d (LL.val Draftᵐ.the-type Draft′.the-laws d ∷ []) → CountersTyped (d .counters)

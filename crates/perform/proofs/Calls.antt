@@ -1,19 +1,16 @@
--- THE CALLS as whole, for the caller, at the store that it has: it fills the block in, runs rule D as often as there are turns, and answers; in
--- every case alike. `record-outcome`, `propose-outcome` and `timer-outcome` say that this is the call of `protocol`. Assumes nothing.
+-- THE CALLS as whole, for the caller, at the store that it has: one that is refused leaves everything as it was; of one that is accepted the caller fills the block in
+-- and runs rule D as often as there are turns. `record-refused`, `record-taken` and those of propose and timer say that this is the call of `protocol`. Assumes nothing.
 use Prim.Native.Nat.{ℕ, zero, suc, _^_, _≤_, _<_}
 use native.Mathlib.Omega.{arith}
 use mathlib.Core.Path.{_≡_, refl, sym, ap, _∙_}
-use mathlib.Core.Bool.{cond}
+use mathlib.Core.Bool.{Bool}
 use mathlib.Core.List.{List}
-use borrow.Author.Tests.{ne-eqb}
-use lib.Dec.{eqb}
 use lib.ListN.{length, set, length-set, length-append}
 use lib.Seq.{length-take-le}
 use Rattle.settings.specs.Answer.{Answer, accepts, refuses}
 use Rattle.wire.specs.Content.{content}
 use Rattle.blocks.specs.declared.Block.{Block}
-use Rattle.blocks.specs.declared.Found.{Found}
-use Rattle.blocks.specs.Store.{genesis, ancestry, releases}
+use Rattle.blocks.specs.Store.{ancestry, releases}
 use Rattle.memory.specs.Layout.{blockCountOf}
 use Rattle.memory.specs.Window.{lowest}
 use Rattle.memory.specs.Leaders.{byList}
@@ -23,17 +20,16 @@ use Rattle.protocol.specs.Events.{onRecord, onTimer, onPropose}
 use Rattle.protocol.specs.Rules.{lowestPair, ruleD, again, settle, ballotViews}
 use Rattle.protocol.specs.Calls.{Replica, begin, recordCore, timerCore, proposeCore, Outcome, outcome, recordCall, timerCall, proposeCall}
 use Rattle.refusals.specs.Number.{answerOf}
-use Rattle.judge.specs.declared.Want.{Want}
 use Rattle.judge.proofs.Whole.{record-core, propose-core, timer-core}
 use Rattle.act.specs.declared.Draft.{Draft}
 use Rattle.act.specs.Draft.{workOf, Left, left, leftBy}
 use Rattle.act.proofs.Advancing.{longer-if}
-use Rattle.act.proofs.Steps.{Longer, left-then, does-nothing, work-again, ready-facts}
-use Rattle.event.proofs.Giving.{set-nowhere}
+use Rattle.act.proofs.Steps.{Longer, left-then, work-again, ready-facts}
+use Rattle.event.specs.Event.{Always, Asked, Proposable}
 use Rattle.rules.specs.Phases.{phases}
 use Rattle.rules.proofs.Running.{settle-is}
 use Rattle.perform.specs.declared.Done.{Done}
-use Rattle.perform.specs.Perform.{fresh, Performs, timerNumber, TimerJudged, proposeNumber, ProposeFound, recordNumber, RecordFound}
+use Rattle.perform.specs.Perform.{Completes, Accepted, timerNumber, proposeNumber, recordNumber}
 use Rattle.perform.proofs.Deciding.{timer-room, propose-room, record-room}
 
 -- ---- rule D: nothing is unwritten
@@ -49,119 +45,96 @@ unfolding again
 again-longer zero W = omega arith
 again-longer (suc k) W = omega (arith, D-longer W, again-longer k (ruleD W))
 
--- how far a call has come before rule D: a refused one nowhere
-abbrev pub reached : ℕ → (Work → Work) → Work → Work
-reached k f W = cond (eqb k 0) (phases (f W)) W
-
-module _ (judged : Work → ℕ) (f : Work → Work) (given : Work → Type 0) (R : Replica) {o : List ℕ} {e : Done} {m′ o′ : List ℕ}
-    (p : Performs judged f given (R .counters) (R .memory) o e m′ o′) (short : length (R .store) < 2 ^ 64) (g : given (begin R)) where
-  -- the replica at work once the block is filled in
-  abbrev pub filled : Work
-  filled = workOf (e .draft) m′ o′ (set (R .store) (e .place) (e .block))
-
-  -- what is left, accepted or refused
-  pub performs-left : left (e .draft) m′ o′ (set (R .store) (e .place) (e .block)) ≡ leftBy (reached (e .refusal) f (begin R)) o
-  performs-left = by (e .refusal) refl
-    where
-      by : (k : ℕ) → e .refusal ≡ k → left (e .draft) m′ o′ (set (R .store) (e .place) (e .block)) ≡ leftBy (reached k f (begin R)) o
-      by zero q = p .completes q .leaves (R .store) short g
-      by (suc k) q =
-          let x = p .refused (λ z. let y : suc k ≡ 0 = sym q ∙ z in omega arith) in
-          ap (λ (y : Done). left (y .draft) m′ o′ (set (R .store) (y .place) (y .block))) (x .0)
-          ∙ ap (λ (s : List Block). left (fresh (R .counters)) m′ o′ s) (set-nowhere (R .store) genesis short)
-          ∙ rw (x .1 .0, x .1 .1, ne-eqb (suc k) 0 (λ z. omega arith)) (does-nothing (fresh (R .counters)) (R .memory) o (omega arith) .leaves (R .store))
-
-  pub performs-work : filled ≡ reached (e .refusal) f (begin R)
-  performs-work = work-again (e .draft) m′ o′ (set (R .store) (e .place) (e .block)) (reached (e .refusal) f (begin R)) o performs-left
-
-  -- all rules: A, B and C, and then as many turns of D
-  pub performs-settle : e .refusal ≡ 0 → storeLength ≤ length (R .store) → settle (f (begin R)) ≡ again (e .turns) filled
-  performs-settle z l =
-      let a = p .completes z in
-      let s = set (R .store) (e .place) (e .block) in
-      let w : filled ≡ phases (f (begin R)) = work-again (e .draft) m′ o′ s (phases (f (begin R))) o (a .leaves (R .store) short g) in
-      let few : blockCountOf m′ ≤ length s = omega (arith, ready-facts (e .draft) m′ o′ (a .ready) .blocks, length-set (R .store) (e .place) (e .block)) in
-      settle-is (f (begin R)) ∙ ap (λ (X : Work). again (length (blocks X)) X) (sym w)
-      ∙ ap (λ (k : ℕ). again k filled) (length-take-le (blockCountOf m′) s few ∙ sym (a .turns))
-
-  -- the answer, and what is left where it is acceptance
-  pub performs-answer : (e .refusal ≡ 0 → storeLength ≤ length (R .store)) → answerOf (judged (begin R)) (settle (f (begin R))) ≡ answerOf (e .refusal) (again (e .turns) filled)
+-- ---- ANY CALL of a replica, by its number and its event
+module _ (number : Work → ℕ) (f : Work → Work) (R : Replica) (o : List ℕ) {core : Answer Work} (is : core ≡ answerOf (number (begin R)) (settle (f (begin R)))) where
+  -- refused, it leaves everything as it was
+  refusing : (k : ℕ) → k ≡ number (begin R) → (k ≡ 0 → ⊥) → outcome R o core ≡ outcome R o (refuses k)
   unfolding answerOf
-  performs-answer l = ap (λ (k : ℕ). answerOf k (settle (f (begin R)))) (sym (p .number (R .store) short g)) ∙ by (e .refusal) refl
-    where
-      by : (k : ℕ) → e .refusal ≡ k → answerOf k (settle (f (begin R))) ≡ answerOf k (again (e .turns) filled)
-      by zero q = ap (λ (X : Work). answerOf 0 X) (performs-settle q (l q))
-      by (suc k) q = refl
+  refusing zero e h = absurd (h refl)
+  refusing (suc k) e h = ap (outcome R o) (is ∙ ap (λ (i : ℕ). answerOf i (settle (f (begin R)))) (sym e))
 
-  -- ---- THE OUTCOME, after the turns of rule D: from the region o′, which the rules A, B and C left, they leave d₂, m₂, o₂ and s₂
-  module _ {d₂ : Draft} {m₂ o₂ : List ℕ} {s₂ : List Block} (turned : left d₂ m₂ o₂ s₂ ≡ leftBy (again (e .turns) filled) o′) where
-    -- the same over the region that was lent
-    turned-all : left d₂ m₂ o₂ s₂ ≡ leftBy (again (e .turns) filled) o
-    turned-all =
-        let W = reached (e .refusal) f (begin R) in
-        left-then (again (e .turns)) W o performs-left turned (again-longer (e .turns) W) ∙ ap (λ (X : Work). leftBy (again (e .turns) X) o) (sym performs-work)
+  -- accepted, it leaves what rule D leaves after so many turns, from the region o′ that the rules A, B and C left
+  module _ (given : Work → Type 0) (a : Accepted number given (begin R)) (long : storeLength ≤ length (R .store)) (short : length (R .store) < 2 ^ 64) {e : Done} {m′ o′ : List ℕ}
+      (p : Completes f given (R .counters) (R .memory) o e m′ o′) where
+    abbrev filled : Work
+    filled = workOf (e .draft) m′ o′ (set (R .store) (e .place) (e .block))
 
-    -- what the caller has in its hands, whether the call was refused or not
-    pub performs-outcome : outcome R o (answerOf (e .refusal) (again (e .turns) filled))
-        ≡ record { reply = answerOf (e .refusal) (d₂ .at); counters = d₂ .counters; memory = m₂; store = s₂; output = o₂ }
-    unfolding outcome answerOf again
-    performs-outcome = by (e .refusal) refl
-      where
-        made : Answer ℕ → Left → Outcome
-        made a l = record { reply = a; counters = l .counters; memory = l .memory; store = l .store; output = l .output }
+    abbrev before-D : Work
+    before-D = phases (f (begin R))
 
-        by : (k : ℕ) → e .refusal ≡ k → outcome R o (answerOf k (again (e .turns) filled))
-            ≡ record { reply = answerOf k (d₂ .at); counters = d₂ .counters; memory = m₂; store = s₂; output = o₂ }
-        by zero q = sym (ap (λ (l : Left). made (accepts (l .at)) l) turned-all)
-        by (suc k) q =
-            let none : suc k ≡ 0 → ⊥ = λ z. omega arith in
-            let idle : e .turns ≡ 0 = ap (λ (y : Done). y .turns) (p .refused (λ z. none (sym q ∙ z)) .0) in
-            let here : filled ≡ begin R = performs-work ∙ rw (q, ne-eqb (suc k) 0 none) in
-            sym (ap (made (refuses (suc k))) (turned-all ∙ ap (λ (i : ℕ). leftBy (again i filled) o) idle ∙ ap (λ (X : Work). leftBy X o) here))
+    done-left : left (e .draft) m′ o′ (set (R .store) (e .place) (e .block)) ≡ leftBy before-D o
+    done-left = p .leaves (R .store) short (a .asked)
 
--- ---- each call: the answer of its core, and its outcome
-module _ (R : Replica) (o : List ℕ) (short : length (R .store) < 2 ^ 64) (e : Done) (m′ o′ : List ℕ) where
-  abbrev done : Work
-  done = again (e .turns) (workOf (e .draft) m′ o′ (set (R .store) (e .place) (e .block)))
+    done-work : filled ≡ before-D
+    done-work = work-again (e .draft) m′ o′ (set (R .store) (e .place) (e .block)) before-D o done-left
 
+    -- all rules: A, B and C, and then as many turns of D
+    settles : settle (f (begin R)) ≡ again (e .turns) filled
+    settles =
+        let s = set (R .store) (e .place) (e .block) in
+        let few : blockCountOf m′ ≤ length s = omega (arith, ready-facts (e .draft) m′ o′ (p .ready) .blocks, length-set (R .store) (e .place) (e .block), long) in
+        settle-is (f (begin R)) ∙ ap (λ (X : Work). again (length (blocks X)) X) (sym done-work)
+        ∙ ap (λ (k : ℕ). again k filled) (length-take-le (blockCountOf m′) s few ∙ sym (p .turns))
+
+    taking : {d₂ : Draft} {m₂ o₂ : List ℕ} {s₂ : List Block} → left d₂ m₂ o₂ s₂ ≡ leftBy (again (e .turns) filled) o′
+        → outcome R o core ≡ record { reply = accepts (d₂ .at); counters = d₂ .counters; memory = m₂; store = s₂; output = o₂ }
+    unfolding outcome answerOf
+    taking {d₂} {m₂} {o₂} {s₂} turned =
+        let all : left d₂ m₂ o₂ s₂ ≡ leftBy (again (e .turns) filled) o =
+        left-then (again (e .turns)) before-D o done-left turned (again-longer (e .turns) before-D) ∙ ap (λ (X : Work). leftBy (again (e .turns) X) o) (sym done-work) in
+        ap (outcome R o) (is ∙ ap (λ (i : ℕ). answerOf i (settle (f (begin R)))) (a .accepted) ∙ ap accepts settles)
+        ∙ sym (ap (λ (l : Left). record { reply = accepts (l .at); counters = l .counters; memory = l .memory; store = l .store; output = l .output }) all)
+
+-- ---- each call: refused, or accepted
+module _ (R : Replica) (o : List ℕ) where
   abbrev inHand : Draft → List ℕ → List ℕ → List Block → Outcome
-  inHand d₂ m₂ o₂ s₂ = record { reply = answerOf (e .refusal) (d₂ .at); counters = d₂ .counters; memory = m₂; store = s₂; output = o₂ }
+  inHand d₂ m₂ o₂ s₂ = record { reply = accepts (d₂ .at); counters = d₂ .counters; memory = m₂; store = s₂; output = o₂ }
 
-  module _ (r : List ℕ) (w : Want) (found under : Found) (g : RecordFound (length o) r w found under (begin R))
-      (p : Performs (recordNumber (length o) r) (onRecord r (content r)) (RecordFound (length o) r w found under) (R .counters) (R .memory) o e m′ o′) where
-    pub record-does : recordCore byList R (length o) r ≡ answerOf (e .refusal) done
+  -- what is handed on to rule D, and what it leaves
+  abbrev Turned : Done → List ℕ → List ℕ → Draft → List ℕ → List ℕ → List Block → Type 0
+  Turned e m′ o′ d₂ m₂ o₂ s₂ = left d₂ m₂ o₂ s₂ ≡ leftBy (again (e .turns) (workOf (e .draft) m′ o′ (set (R .store) (e .place) (e .block)))) o′
+
+  module _ (r : List ℕ) where
+    core-record : recordCore byList R (length o) r ≡ answerOf (recordNumber (length o) r (begin R)) (settle (onRecord r (content r) (begin R)))
     unfolding recordNumber
-    record-does =
-        record-core R (length o) r
-        ∙ performs-answer (recordNumber (length o) r) (onRecord r (content r)) (RecordFound (length o) r w found under) R p short g
-        (λ z. record-room (length o) r (begin R) (sym (p .number (R .store) short g) ∙ z))
+    core-record = record-core R (length o) r
 
-    pub record-outcome : {d₂ : Draft} {m₂ o₂ : List ℕ} {s₂ : List Block} → left d₂ m₂ o₂ s₂ ≡ leftBy done o′ → recordCall byList R o r ≡ inHand d₂ m₂ o₂ s₂
+    pub record-refused : (k : ℕ) → k ≡ recordNumber (length o) r (begin R) → (k ≡ 0 → ⊥) → recordCall byList R o r ≡ outcome R o (refuses k)
     unfolding recordCall
-    record-outcome x = ap (outcome R o) record-does ∙ performs-outcome (recordNumber (length o) r) (onRecord r (content r)) (RecordFound (length o) r w found under) R p short g x
+    record-refused = refusing (recordNumber (length o) r) (onRecord r (content r)) R o core-record
 
-  module _ (x : List ℕ) (w : Want) (found under : Found) (g : ProposeFound (length o) x w found under (begin R))
-      (p : Performs (proposeNumber (length o) x) (onPropose x) (ProposeFound (length o) x w found under) (R .counters) (R .memory) o e m′ o′) where
-    pub propose-does : proposeCore byList R (length o) x ≡ answerOf (e .refusal) done
+    pub record-taken : (t : Bool) → Accepted (recordNumber (length o) r) (Asked r t) (begin R) → length (R .store) < 2 ^ 64 → {e : Done} {m′ o′ : List ℕ}
+        → Completes (onRecord r (content r)) (Asked r t) (R .counters) (R .memory) o e m′ o′ → {d₂ : Draft} {m₂ o₂ : List ℕ} {s₂ : List Block} → Turned e m′ o′ d₂ m₂ o₂ s₂
+        → recordCall byList R o r ≡ inHand d₂ m₂ o₂ s₂
+    unfolding recordCall
+    record-taken t a short p x = taking (recordNumber (length o) r) (onRecord r (content r)) R o core-record (Asked r t) a (record-room (length o) r (begin R) (a .accepted)) short p x
+
+  module _ (x : List ℕ) where
+    core-propose : proposeCore byList R (length o) x ≡ answerOf (proposeNumber (length o) x (begin R)) (settle (onPropose x (begin R)))
     unfolding proposeNumber
-    propose-does =
-        propose-core R (length o) x
-        ∙ performs-answer (proposeNumber (length o) x) (onPropose x) (ProposeFound (length o) x w found under) R p short g
-        (λ z. propose-room (length o) x (begin R) (sym (p .number (R .store) short g) ∙ z))
+    core-propose = propose-core R (length o) x
 
-    pub propose-outcome : {d₂ : Draft} {m₂ o₂ : List ℕ} {s₂ : List Block} → left d₂ m₂ o₂ s₂ ≡ leftBy done o′ → proposeCall byList R o x ≡ inHand d₂ m₂ o₂ s₂
+    pub propose-refused : (k : ℕ) → k ≡ proposeNumber (length o) x (begin R) → (k ≡ 0 → ⊥) → proposeCall byList R o x ≡ outcome R o (refuses k)
     unfolding proposeCall
-    propose-outcome y = ap (outcome R o) propose-does ∙ performs-outcome (proposeNumber (length o) x) (onPropose x) (ProposeFound (length o) x w found under) R p short g y
+    propose-refused = refusing (proposeNumber (length o) x) (onPropose x) R o core-propose
 
-  module _ (v k : ℕ) (g : TimerJudged (length o) v k (begin R))
-      (p : Performs (timerNumber (length o) v) (onTimer v) (TimerJudged (length o) v k) (R .counters) (R .memory) o e m′ o′) where
-    pub timer-does : timerCore R (length o) v ≡ answerOf (e .refusal) done
+    pub propose-taken : (h : ℕ) → Accepted (proposeNumber (length o) x) (Proposable x h) (begin R) → length (R .store) < 2 ^ 64 → {e : Done} {m′ o′ : List ℕ}
+        → Completes (onPropose x) (Proposable x h) (R .counters) (R .memory) o e m′ o′ → {d₂ : Draft} {m₂ o₂ : List ℕ} {s₂ : List Block} → Turned e m′ o′ d₂ m₂ o₂ s₂
+        → proposeCall byList R o x ≡ inHand d₂ m₂ o₂ s₂
+    unfolding proposeCall
+    propose-taken h a short p y = taking (proposeNumber (length o) x) (onPropose x) R o core-propose (Proposable x h) a (propose-room (length o) x (begin R) (a .accepted)) short p y
+
+  module _ (v : ℕ) where
+    core-timer : timerCore R (length o) v ≡ answerOf (timerNumber (length o) v (begin R)) (settle (onTimer v (begin R)))
     unfolding timerNumber
-    timer-does =
-        timer-core R (length o) v
-        ∙ performs-answer (timerNumber (length o) v) (onTimer v) (TimerJudged (length o) v k) R p short g
-        (λ z. timer-room (length o) v (begin R) (sym (p .number (R .store) short g) ∙ z))
+    core-timer = timer-core R (length o) v
 
-    pub timer-outcome : {d₂ : Draft} {m₂ o₂ : List ℕ} {s₂ : List Block} → left d₂ m₂ o₂ s₂ ≡ leftBy done o′ → timerCall R o v ≡ inHand d₂ m₂ o₂ s₂
+    pub timer-refused : (k : ℕ) → k ≡ timerNumber (length o) v (begin R) → (k ≡ 0 → ⊥) → timerCall R o v ≡ outcome R o (refuses k)
     unfolding timerCall
-    timer-outcome y = ap (outcome R o) timer-does ∙ performs-outcome (timerNumber (length o) v) (onTimer v) (TimerJudged (length o) v k) R p short g y
+    timer-refused = refusing (timerNumber (length o) v) (onTimer v) R o core-timer
+
+    pub timer-taken : Accepted (timerNumber (length o) v) Always (begin R) → length (R .store) < 2 ^ 64 → {e : Done} {m′ o′ : List ℕ}
+        → Completes (onTimer v) Always (R .counters) (R .memory) o e m′ o′ → {d₂ : Draft} {m₂ o₂ : List ℕ} {s₂ : List Block} → Turned e m′ o′ d₂ m₂ o₂ s₂
+        → timerCall R o v ≡ inHand d₂ m₂ o₂ s₂
+    unfolding timerCall
+    timer-taken a short p y = taking (timerNumber (length o) v) (onTimer v) R o core-timer Always a (timer-room (length o) v (begin R) (a .accepted)) short p y

@@ -1,11 +1,9 @@
 -- An event and then the rules: what is ready between them, and what both leave. Assumes nothing.
 use Prim.Native.Nat.{ℕ, _+_, _^_, _≤_, _<_}
 use native.Mathlib.Omega.{arith}
-use mathlib.Core.Path.{_≡_, refl, sym, ap, _∙_}
-use mathlib.Core.Bool.{Bool, true, false, not}
+use mathlib.Core.Path.{_≡_, refl, sym, _∙_}
 use mathlib.Core.List.{List}
-use borrow.Author.Tests.{ltb-false, eqb-true, eqb-false, not-true, not-false}
-use lib.Dec.{eqb}
+use borrow.Author.Tests.{ltb-false, not-false}
 use lib.ListN.{length}
 use Rattle.codec.specs.Bytes.{IsBytes}
 use Rattle.wire.specs.Fit.{IsU64}
@@ -31,7 +29,7 @@ use Rattle.event.proofs.Giving.{gives-then, gives-ready}
 use Rattle.rules.specs.Phases.{phases}
 use Rattle.rules.proofs.Running.{phases-keep, phases-longer}
 use Rattle.perform.specs.declared.Done as own
-use Rattle.perform.specs.Perform.{fresh, refusal, rulesRoom, releasesRoom, callRoom, Completes, Performs, Lent, timerNumber, TimerJudged}
+use Rattle.perform.specs.Perform.{fresh, rulesRoom, releasesRoom, callRoom, Completes, Lent, Accepted, timerNumber}
 
 -- ---- the rules leave room for rule D
 pub run-ready : {d d₁ : Draft} {m m₁ o o₁ : List ℕ} → Ready d m o (rulesRoom + releasesRoom) → CountersTyped (d .counters) → IsBytes m → Does phases d m o d₁ m₁ o₁ → Ready d₁ m₁ o₁ releasesRoom
@@ -44,43 +42,19 @@ module _ (f : Work → Work) (given : Work → Type 0) {d : Draft} {m m₁ o o�
   event-ready s l g r h =
       gives-ready f given a s l g (rulesRoom + releasesRoom) (h .regular) (omega (arith, h .written, written-at d m o r s, r .room))
 
-  pub completes : {z : own.Done} {m₂ o₂ : List ℕ}
-      → ((z .refusal ≡ 0) × ((z .place ≡ e .place) × (z .block ≡ e .block))) × (Does phases (e .draft) m₁ o₁ (z .draft) m₂ o₂ × ((z .turns ≡ blockCountOf m₂) × Ready (z .draft) m₂ o₂ releasesRoom))
-      → Completes f given d m o z m₂ o₂
-  completes {z} {m₂} {o₂} x =
-      let y = gives-then f phases given a (x .1 .0) phases-longer in
-      record { accepted = x .0 .0; leaves = λ s l g. rw (x .0 .1 .0, x .0 .1 .1) (y .leaves s l g); turns = x .1 .1 .0; ready = x .1 .1 .1 }
+-- an event of a fresh call, and then the rules
+pub completes : (f : Work → Work) (given : Work → Type 0) {c : Counters} {m m₁ o o₁ : List ℕ} {e : Event} → Gives f given (fresh c) m o e m₁ o₁ → {z : own.Done} {m₂ o₂ : List ℕ}
+    → ((z .place ≡ e .place) × (z .block ≡ e .block)) × (Does phases (e .draft) m₁ o₁ (z .draft) m₂ o₂ × ((z .turns ≡ blockCountOf m₂) × Ready (z .draft) m₂ o₂ releasesRoom))
+    → Completes f given c m o z m₂ o₂
+completes f given a x =
+    let y = gives-then f phases given a (x .1 .0) phases-longer in
+    record { leaves = λ s l g. rw (x .0 .0, x .0 .1) (y .leaves s l g); turns = x .1 .1 .0; ready = x .1 .1 .1 }
 
 -- ---- the timer
 pub timer-ready : (d : Draft) (m o : List ℕ) (v : ℕ) {e : Event} {m₁ o₁ : List ℕ} → IsU64 v → CountersTyped (d .counters) → IsBytes m → Ready d m o callRoom
     → Gives (onTimer v) Always d m o e m₁ o₁ → Ready (e .draft) m₁ o₁ (rulesRoom + releasesRoom)
 timer-ready d m o v u t b r a =
     event-ready (onTimer v) Always a emptyStore (omega arith) tt r (timer-done (workOf d m o emptyStore) v u (ready-regular d m o r t b))
-
--- ---- what `ends` says of a number: it is a refusal's, or the call goes on
-module _ {c : Counters} {k : ℕ} {z : own.Done} {b : Bool} (e : z ≡ refusal c k) (s : b ≡ not (eqb (z .refusal) 0)) where
-  number-ends : b ≡ not (eqb k 0)
-  number-ends = s ∙ ap (λ (y : own.Done). not (eqb (y .refusal) 0)) e
-
-  pub ended : b ≡ true → k ≡ 0 → ⊥
-  ended t = eqb-false k 0 (not-true (eqb k 0) (sym number-ends ∙ t))
-
-  pub went-on : b ≡ false → k ≡ 0
-  went-on t = eqb-true k 0 (not-false (eqb k 0) (sym number-ends ∙ t))
-
--- ---- a call, refused or completed
-pub completes-given : (f : Work → Work) (given given₁ : Work → Type 0) {d : Draft} {m o : List ℕ} {z : own.Done} {m₁ o₁ : List ℕ} → ((s : List Block) → given₁ (workOf d m o s) → given (workOf d m o s))
-    → Completes f given d m o z m₁ o₁ → Completes f given₁ d m o z m₁ o₁
-completes-given f given given₁ h a = record { accepted = a .accepted; leaves = λ s l g. a .leaves s l (h s g); turns = a .turns; ready = a .ready }
-
-module _ (judged : Work → ℕ) (f : Work → Work) (given : Work → Type 0) {c : Counters} {m o : List ℕ} {z : own.Done} where
-  pub performs-refused : (k : ℕ) → z ≡ refusal c k → (k ≡ 0 → ⊥) → ((s : List Block) → given (lent c m s) → k ≡ judged (lent c m s)) → Performs judged f given c m o z m o
-  performs-refused k x h j =
-      let e : z .refusal ≡ k = ap (λ (y : own.Done). y .refusal) x in
-      record { number = λ s l g. e ∙ j s g; refused = λ q. (x ∙ ap (refusal c) (sym e), (refl, refl)); completes = λ q. absurd (h (sym e ∙ q)) }
-
-  pub performs-completed : {m₁ o₁ : List ℕ} → Completes f given (fresh c) m o z m₁ o₁ → ((s : List Block) → given (lent c m s) → 0 ≡ judged (lent c m s)) → Performs judged f given c m o z m₁ o₁
-  performs-completed x j = record { number = λ s l g. x .accepted ∙ j s g; refused = λ q. absurd (q (x .accepted)); completes = λ q. x }
 
 -- ---- past refusal 2 a call is ready, with room for all that it writes before rule D
 pub regions-passed : (c : Counters) (m o : List ℕ) (s : List Block) → firstOf (regionRules (lent c m s) (length o)) ≡ 0 → Ready (fresh c) m o callRoom × (storeLength ≤ length s)
@@ -92,8 +66,8 @@ regions-passed c m o s e =
     let f = passes _ _ refl (d .1) in
     (record { long = ltb-false (length m) memoryLength (a .0); regular = not-false (regular (lent c m s)) (f .0); room = omega (arith, ltb-false (length o) outputLength (d .0)) }, ltb-false (length s) storeLength (b .0))
 
-pub timer-passed : (c : Counters) (m o : List ℕ) (v k : ℕ) → Lent (TimerJudged (length o) v k) (lent c m) → k ≡ 0 → Ready (fresh c) m o callRoom
+pub timer-passed : (c : Counters) (m o : List ℕ) (v : ℕ) → Lent (Accepted (timerNumber (length o) v) Always) (lent c m) → Ready (fresh c) m o callRoom
 unfolding timerNumber
-timer-passed c m o v k a e =
+timer-passed c m o v a =
     let W = lent c m (a .store) in
-    regions-passed c m o (a .store) (else-both _ (firstOf (timerRules W v)) (sym (first-then (regionRules W (length o)) (timerRules W v) (regions-numbered W (length o))) ∙ sym (a .given) ∙ e) .0) .0
+    regions-passed c m o (a .store) (else-both _ (firstOf (timerRules W v)) (sym (first-then (regionRules W (length o)) (timerRules W v) (regions-numbered W (length o))) ∙ a .given .accepted) .0) .0

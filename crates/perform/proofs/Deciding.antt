@@ -1,7 +1,7 @@
 -- The number of a call in two steps, and what an accepted one has shown. Assumes nothing.
 use Prim.Native.Nat.{ℕ, suc, _+_, _≤_, _<_}
 use native.Mathlib.Omega.{arith}
-use mathlib.Core.Path.{_≡_, sym, ap, _∙_}
+use mathlib.Core.Path.{_≡_, refl, sym, ap, _∙_}
 use mathlib.Core.Bool.{Bool, true, false, not, _&&_, _||_, true≢false}
 use mathlib.Core.List.{List, _++_}
 use borrow.Author.Tests.{ltb-false}
@@ -28,9 +28,9 @@ use Rattle.protocol.proofs.call.Proposals.{room-free}
 use Rattle.protocol.proofs.call.Contents.{quiet-append}
 use Rattle.refusals.specs.Number.{answerOf, firstOf, orElse}
 use Rattle.refusals.specs.Early.{lent}
-use Rattle.refusals.proofs.Numbers.{else-some, else-none}
+use Rattle.refusals.proofs.Numbers.{else-some, else-none, else-both}
 use Rattle.judge.specs.declared.Want.{Want}
-use Rattle.judge.specs.Want.{asked}
+use Rattle.judge.specs.Want.{asked, recordWant, proposeWant}
 use Rattle.judge.specs.Late.{lookedUp, lateRules, latePropose, recordLate, proposeLate}
 use Rattle.judge.proofs.Whole.{record-judged, record-passed, record-whole, propose-judged, propose-passed, timer-judged}
 use Rattle.act.specs.declared.Draft.{Draft}
@@ -40,10 +40,10 @@ use Rattle.event.specs.declared.Event.{Event}
 use Rattle.event.specs.Event.{Gives, Asked, Taken, Proposable, safeOfEntry}
 use Rattle.event.proofs.Passing.{passed-taken}
 use Rattle.event.proofs.Records.{content-proposal, content-block}
-use Rattle.perform.specs.declared.Done as own
-use Rattle.perform.specs.Perform.{fresh, refusal, rulesRoom, releasesRoom, callRoom, Completes, Performs, Lent, Accepted, timerNumber, proposeNumber, ProposeFound, recordNumber, RecordFound}
+use Rattle.perform.specs.declared.Judged.{Judged}
+use Rattle.perform.specs.Perform.{fresh, rulesRoom, releasesRoom, callRoom, Lent, Accepted, judgedBy, Judges, timerNumber, proposeNumber, ProposeFound, recordNumber, RecordFound}
 use Rattle.perform.proofs.Storing.{propose-witness, record-witness}
-use Rattle.perform.proofs.Completing.{event-ready, regions-passed, completes-given, performs-refused, performs-completed}
+use Rattle.perform.proofs.Completing.{event-ready, regions-passed}
 
 -- ---- where the number is 0 no rule applies
 quiet-of : (rules : List Rule) (k : ℕ) → ((a : ℕ) → judge rules a ≡ answerOf k a) → k ≡ 0 → Quiet rules
@@ -58,6 +58,14 @@ store-room W room q = ltb-false (length (W .store)) storeLength (q .1 .0)
 pub timer-room : (room v : ℕ) (W : Work) → timerNumber room v W ≡ 0 → storeLength ≤ length (W .store)
 unfolding timerNumber
 timer-room room v W e = store-room W room (quiet-append (regionRules W room) (timerRules W v) (quiet-of _ _ (λ a. timer-judged W room v a) e) .0)
+
+-- ---- the number in two steps: before the store is asked, or else with what was found there
+module _ (k : ℕ) (found under : Found) {j : Judged} where
+  pub judged-early : (l : ℕ) → (k ≡ 0 → ⊥) → j ≡ judgedBy k found under → j ≡ judgedBy (orElse k l) found under
+  judged-early l h e = e ∙ ap (λ (i : ℕ). judgedBy i found under) (sym (else-some k l h))
+
+  pub judged-late : {l m : ℕ} → k ≡ 0 → l ≡ m → j ≡ judgedBy l found under → j ≡ judgedBy (orElse k m) found under
+  judged-late {l} {m} h q e = e ∙ ap (λ (i : ℕ). judgedBy i found under) (q ∙ sym (else-none k m h))
 
 -- ---- propose
 module _ (room : ℕ) (x : List ℕ) (W : Work) where
@@ -83,21 +91,21 @@ module _ (room : ℕ) (x : List ℕ) (W : Work) where
       placed b e = ltb-false _ _ (or-right (not (isHeld W (b .parent) && eqb (b .height .0) (suc (heldBlock W (b .parent) .block .height .0)))) (ltb lastHeight (b .height .0)) e)
 
   module _ (w : Want) (found under : Found) (g : ProposeFound room x w found under W) where
-    pub propose-early : (w .refusal ≡ 0 → ⊥) → w .refusal ≡ proposeNumber room x W
-    unfolding proposeNumber
-    propose-early h = sym (else-some (w .refusal) (proposeLate W w) h) ∙ ap (λ (v : Want). orElse (v .refusal) (proposeLate W v)) (g .want)
-
-    pub propose-late : {k : ℕ} → w .refusal ≡ 0 → k ≡ firstOf (latePropose w found under) → k ≡ proposeNumber room x W
+    propose-number : orElse (w .refusal) (firstOf (latePropose w found under)) ≡ proposeNumber room x W
     unfolding proposeNumber proposeLate
-    propose-late e h =
-        h ∙ ap (λ (y : Found). firstOf (latePropose w y under)) (g .found) ∙ ap (λ (y : Found). firstOf (latePropose w (lookedUp W w (w .name)) y)) (g .under)
-        ∙ sym (else-none (w .refusal) (proposeLate W w) e) ∙ ap (λ (v : Want). orElse (v .refusal) (proposeLate W v)) (g .want)
+    propose-number = rw (g .found, g .under, g .want)
 
-    pub propose-found : w .refusal ≡ 0 → proposeNumber room x W ≡ 0 → Proposable x (under .block .height .0) W
+    propose-found : w .refusal ≡ 0 → proposeNumber room x W ≡ 0 → Proposable x (under .block .height .0) W
     unfolding proposeRules safeOfEntry
     propose-found e z =
         let q = g .want ∙ propose-passed W room x (sym (ap (λ (v : Want). v .refusal) (g .want)) ∙ e) .2 in
         record { new = propose-quiet z .1 .1 .1 .0; height = sym (ap (λ (y : Found). y .block .height .0) (g .under ∙ ap (λ (v : Want). lookedUp W v (v .base)) q)) }
+
+    -- a propose is rightly judged
+    pub propose-judges : (j : Judged) → j ≡ judgedBy (orElse (w .refusal) (firstOf (latePropose w found under))) found under
+        → Judges (proposeNumber room x) (Proposable x (j .below .0)) (j .accepted) (j .refusal) W
+    propose-judges j e =
+        rw e (record { told = refl; is = propose-number; shown = λ z. propose-found (else-both (w .refusal) _ z .0) (sym propose-number ∙ z) })
 
 module _ (d : Draft) (m o x : List ℕ) (h : ℕ) (r : Ready d m o callRoom) (a : Lent (Accepted (proposeNumber (length o) x) (Proposable x h)) (workOf d m o)) where
   pub propose-asks : Ready d m o (88 + entryRoom + 48) × ((h < lastHeight) × (blockCountOf m < storeLength))
@@ -110,16 +118,12 @@ module _ (d : Draft) (m o x : List ℕ) (h : ℕ) (r : Ready d m o callRoom) (a 
       let z = propose-witness d m o r t b x i h (propose-fits (length o) x W h (a .given .accepted) (a .given .asked) .0) (a .store) (a .given .asked) (q .1) in
       event-ready (onPropose x) (Proposable x h) y (z .store) (z .short) (z .given) r (z .done)
 
--- what `propose_accepted` asks
-pub propose-accepts : (c : Counters) (m o x : List ℕ) (w : Want) (found under : Found) {k : ℕ} → Lent (ProposeFound (length o) x w found under) (lent c m) → w .refusal ≡ 0
-    → k ≡ firstOf (latePropose w found under) → k ≡ 0
-    → Ready (fresh c) m o callRoom × Lent (Accepted (proposeNumber (length o) x) (Proposable x (under .block .height .0))) (workOf (fresh c) m o)
-propose-accepts c m o x w found under a e h z =
+-- an accepted propose is ready
+pub propose-passes : (c : Counters) (m o x : List ℕ) (h : ℕ) → Lent (Accepted (proposeNumber (length o) x) (Proposable x h)) (lent c m) → Ready (fresh c) m o callRoom
+unfolding proposeNumber
+propose-passes c m o x h a =
     let W = lent c m (a .store) in
-    let g = a .given in
-    let j : proposeNumber (length o) x W ≡ 0 = sym (propose-late (length o) x W w found under g e h) ∙ z in
-    let p = propose-passed W (length o) x (sym (ap (λ (v : Want). v .refusal) (g .want)) ∙ e) in
-    (regions-passed c m o (a .store) (p .0) .0, record { store = a .store; given = record { accepted = j; asked = propose-found (length o) x W w found under g e j } })
+    regions-passed c m o (a .store) (propose-passed W (length o) x (else-both _ (proposeLate W (proposeWant W (length o) x)) (a .given .accepted) .0) .0) .0
 
 -- ---- a record
 module _ (room : ℕ) (r : List ℕ) (W : Work) where
@@ -133,17 +137,11 @@ module _ (room : ℕ) (r : List ℕ) (W : Work) where
   record-room e = store-room W room (record-quiet e .0)
 
   module _ (w : Want) (found under : Found) (g : RecordFound room r w found under W) where
-    pub record-early : (w .refusal ≡ 0 → ⊥) → w .refusal ≡ recordNumber room r W
-    unfolding recordNumber
-    record-early h = sym (else-some (w .refusal) (recordLate W w (content r)) h) ∙ ap (λ (v : Want). orElse (v .refusal) (recordLate W v (content r))) (g .want)
-
-    pub record-late : {k : ℕ} → w .refusal ≡ 0 → k ≡ firstOf (lateRules w found under (content r)) → k ≡ recordNumber room r W
+    record-number : orElse (w .refusal) (firstOf (lateRules w found under (content r))) ≡ recordNumber room r W
     unfolding recordNumber recordLate
-    record-late e h =
-        h ∙ ap (λ (y : Found). firstOf (lateRules w y under (content r))) (g .found) ∙ ap (λ (y : Found). firstOf (lateRules w (lookedUp W w (w .name)) y (content r))) (g .under)
-        ∙ sym (else-none (w .refusal) (recordLate W w (content r)) e) ∙ ap (λ (v : Want). orElse (v .refusal) (recordLate W v (content r))) (g .want)
+    record-number = rw (g .found, g .under, g .want)
 
-    pub record-found : w .refusal ≡ 0 → Asked r (found .is) W
+    record-found : w .refusal ≡ 0 → Asked r (found .is) W
     unfolding asked
     record-found e =
         let q = g .want ∙ record-passed W room r (sym (ap (λ (v : Want). v .refusal) (g .want)) ∙ e) .3 in
@@ -152,10 +150,14 @@ module _ (room : ℕ) (r : List ℕ) (W : Work) where
           block = λ k. sym (ap (λ (y : Found). y .is) (g .found ∙ ap (λ (v : Want). lookedUp W v (v .name)) (q ∙ ap (asked (W .memory)) (content-block r k))));
         }
 
--- what `record_chain` asks
-pub record-shaped : (c : Counters) (m r : List ℕ) (room : ℕ) (w : Want) (found under : Found) → Lent (RecordFound room r w found under) (lent c m) → w .refusal ≡ 0 → badLength r ≡ false
-record-shaped c m r room w found under a e =
-    record-whole (lent c m (a .store)) room r (sym (ap (λ (v : Want). v .refusal) (a .given .want)) ∙ e) .0
+    -- what `late_record` asks: what was not refused so far has its shape
+    pub record-shaped : w .refusal ≡ 0 → badLength r ≡ false
+    record-shaped e = record-whole W room r (sym (ap (λ (v : Want). v .refusal) (g .want)) ∙ e) .0
+
+    -- a record is rightly judged
+    pub record-judges : (j : Judged) → j ≡ judgedBy (orElse (w .refusal) (firstOf (lateRules w found under (content r)))) found under
+        → Judges (recordNumber room r) (Asked r (j .held)) (j .accepted) (j .refusal) W
+    record-judges j e = rw e (record { told = refl; is = record-number; shown = λ z. record-found (else-both (w .refusal) _ z .0) })
 
 module _ (d : Draft) (m o r : List ℕ) (t : Bool) (y : Ready d m o callRoom) (a : Lent (Accepted (recordNumber (length o) r) (Asked r t)) (workOf d m o)) (b : IsBytes r) where
   pub record-asks : Ready d m o (entryRoom + 48) × ((8 ≤ length r) × Taken m r t)
@@ -172,52 +174,9 @@ module _ (d : Draft) (m o r : List ℕ) (t : Bool) (y : Ready d m o callRoom) (a
       let x = record-witness d m o y i j r t b (a .store) g (passed-taken W r b (q .1 .0) (q .1 .1) t g) (q .1 .0) (q .1 .1) in
       event-ready (onRecord r (content r)) (Asked r t) z (x .store) (x .short) (x .given) y (x .done)
 
--- what `record_accepted` asks
-pub record-accepts : (c : Counters) (m o r : List ℕ) (w : Want) (found under : Found) {k : ℕ} → Lent (RecordFound (length o) r w found under) (lent c m) → w .refusal ≡ 0
-    → k ≡ firstOf (lateRules w found under (content r)) → k ≡ 0
-    → Ready (fresh c) m o callRoom × Lent (Accepted (recordNumber (length o) r) (Asked r (found .is))) (workOf (fresh c) m o)
-record-accepts c m o r w found under a e h z =
+-- an accepted record is ready
+pub record-passes : (c : Counters) (m o r : List ℕ) (t : Bool) → Lent (Accepted (recordNumber (length o) r) (Asked r t)) (lent c m) → Ready (fresh c) m o callRoom
+unfolding recordNumber
+record-passes c m o r t a =
     let W = lent c m (a .store) in
-    let g = a .given in
-    let j : recordNumber (length o) r W ≡ 0 = sym (record-late (length o) r W w found under g e h) ∙ z in
-    let p = record-passed W (length o) r (sym (ap (λ (v : Want). v .refusal) (g .want)) ∙ e) in
-    (regions-passed c m o (a .store) (p .0) .0, record { store = a .store; given = record { accepted = j; asked = record-found (length o) r W w found under g e } })
-
--- ---- THE CALLS, by what the code finds: a refusal before the store was asked, one with what it holds, or none
-module _ (c : Counters) (m o x : List ℕ) (w : Want) (found under : Found) {z : own.Done} where
-  pub propose-refused : (w .refusal ≡ 0 → ⊥) → z ≡ refusal c (w .refusal) → Performs (proposeNumber (length o) x) (onPropose x) (ProposeFound (length o) x w found under) c m o z m o
-  propose-refused h e = performs-refused _ (onPropose x) (ProposeFound (length o) x w found under) (w .refusal) e h (λ s g. propose-early (length o) x (lent c m s) w found under g h)
-
-  module _ {k : ℕ} (none : w .refusal ≡ 0) (late : k ≡ firstOf (latePropose w found under)) where
-    pub propose-refused-late : (k ≡ 0 → ⊥) → z ≡ refusal c k → Performs (proposeNumber (length o) x) (onPropose x) (ProposeFound (length o) x w found under) c m o z m o
-    propose-refused-late h e =
-        performs-refused _ (onPropose x) (ProposeFound (length o) x w found under) k e h (λ s g. propose-late (length o) x (lent c m s) w found under g none late)
-
-    pub propose-completed : {m₁ o₁ : List ℕ} → k ≡ 0 → Completes (onPropose x) (Proposable x (under .block .height .0)) (fresh c) m o z m₁ o₁
-        → Performs (proposeNumber (length o) x) (onPropose x) (ProposeFound (length o) x w found under) c m o z m₁ o₁
-    propose-completed e a =
-        let number : (s : List Block) → ProposeFound (length o) x w found under (lent c m s) → 0 ≡ proposeNumber (length o) x (lent c m s) =
-        λ s g. sym e ∙ propose-late (length o) x (lent c m s) w found under g none late in
-        performs-completed _ (onPropose x) (ProposeFound (length o) x w found under)
-        (completes-given (onPropose x) (Proposable x (under .block .height .0)) (ProposeFound (length o) x w found under)
-        (λ s g. propose-found (length o) x (lent c m s) w found under g none (sym (number s g))) a) number
-
-module _ (c : Counters) (m o r : List ℕ) (w : Want) (found under : Found) {z : own.Done} where
-  pub record-refused : (w .refusal ≡ 0 → ⊥) → z ≡ refusal c (w .refusal)
-      → Performs (recordNumber (length o) r) (onRecord r (content r)) (RecordFound (length o) r w found under) c m o z m o
-  record-refused h e =
-      performs-refused _ (onRecord r (content r)) (RecordFound (length o) r w found under) (w .refusal) e h (λ s g. record-early (length o) r (lent c m s) w found under g h)
-
-  module _ {k : ℕ} (none : w .refusal ≡ 0) (late : k ≡ firstOf (lateRules w found under (content r))) where
-    pub record-refused-late : (k ≡ 0 → ⊥) → z ≡ refusal c k
-        → Performs (recordNumber (length o) r) (onRecord r (content r)) (RecordFound (length o) r w found under) c m o z m o
-    record-refused-late h e =
-        performs-refused _ (onRecord r (content r)) (RecordFound (length o) r w found under) k e h (λ s g. record-late (length o) r (lent c m s) w found under g none late)
-
-    pub record-completed : {m₁ o₁ : List ℕ} → k ≡ 0 → Completes (onRecord r (content r)) (Asked r (found .is)) (fresh c) m o z m₁ o₁
-        → Performs (recordNumber (length o) r) (onRecord r (content r)) (RecordFound (length o) r w found under) c m o z m₁ o₁
-    record-completed e a =
-        performs-completed _ (onRecord r (content r)) (RecordFound (length o) r w found under)
-        (completes-given (onRecord r (content r)) (Asked r (found .is)) (RecordFound (length o) r w found under)
-        (λ s g. record-found (length o) r (lent c m s) w found under g none) a)
-        (λ s g. sym e ∙ record-late (length o) r (lent c m s) w found under g none late)
+    regions-passed c m o (a .store) (record-passed W (length o) r (else-both _ (recordLate W (recordWant W (length o) r) (content r)) (a .given .accepted) .0) .0) .0

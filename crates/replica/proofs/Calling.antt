@@ -1,11 +1,12 @@
 -- What the calls hand on from step to step: what `perform` leaves is what rule D asks for, and together they are the calls of protocol. Assumes nothing.
-use Prim.Native.Nat.{ℕ, zero, suc, _*_, _^_, _≤_, _<_}
+use Prim.Native.Nat.{ℕ, _*_, _^_, _≤_, _<_}
 use native.Mathlib.Omega.{arith}
 use mathlib.Core.Path.{_≡_, refl, sym, ap, _∙_}
 use mathlib.Core.Bool.{Bool, true, false, cond}
 use mathlib.Core.List.{List}
+use borrow.Author.Tests.{eqb-true, eqb-false}
 use lib.Dec.{eqb}
-use Rattle.settings.specs.Answer.{Answer, refuses}
+use Rattle.settings.specs.Answer.{Answer, accepts, refuses}
 use lib.ListN.{length, take, set}
 use Rattle.wire.specs.Fields.{releaseLength}
 use Rattle.wire.specs.Content.{content}
@@ -21,7 +22,7 @@ use Rattle.protocol.specs.Events.{onRecord, onTimer, onPropose}
 use Rattle.protocol.specs.Rules.{again}
 use Rattle.protocol.specs.Contents.{given}
 use Rattle.protocol.specs.Calls.{Replica, recordCore, proposeCore, recordCoreWith, proposeCoreWith, Outcome, outcome, recordCall, timerCall, proposeCall, recordCallWith, proposeCallWith, _then_}
-use Rattle.refusals.specs.Number.{answerOf, firstOf}
+use Rattle.refusals.specs.Number.{firstOf}
 use Rattle.refusals.specs.Early.{lent}
 use Rattle.judge.specs.declared.Want.{Want}
 use Rattle.judge.specs.Late.{lookedUp}
@@ -31,68 +32,81 @@ use Rattle.act.specs.declared.Draft.{Draft}
 use Rattle.act.specs.Draft.{workOf, left, leftBy}
 use Rattle.act.proofs.Steps.{ready-less, ready-facts}
 use Rattle.perform.specs.declared.Done.{Done}
-use Rattle.perform.specs.Perform.{Performs, timerNumber, TimerJudged, proposeNumber, ProposeFound, recordNumber, RecordFound}
-use Rattle.perform.proofs.Calls.{record-outcome, propose-outcome, timer-outcome}
+use Rattle.event.specs.Event.{Always, Asked, Proposable}
+use Rattle.perform.specs.declared.Judged.{Judged}
+use Rattle.perform.specs.Perform.{Judges, Accepted, Completes, timerNumber, proposeNumber, recordNumber}
+use Rattle.perform.proofs.Calls.{record-refused, record-taken, propose-refused, propose-taken, timer-refused, timer-taken}
 use Rattle.replica.specs.declared.Reply.{Reply}
 use Rattle.replica.specs.Reply.{replyOf, lentTo, Replied, replied, repliedBy, Concludes}
 
--- ---- the numbers of a refusal and of acceptance
-pub refused-reply : (k written : ℕ) → (k ≡ 0 → ⊥) → record { refusal = k; written = 0 } ≡ replyOf (answerOf k written)
-unfolding replyOf answerOf
-refused-reply zero written h = absurd (h refl)
-refused-reply (suc k) written h = refl
+-- after an accepted call rule D may be run as often as is said
+pub concludes : {f : Work → Work} {given : Work → Type 0} {c : Counters} {m o : List ℕ} {e : Done} {m′ o′ : List ℕ} (s : List Block) → Completes f given c m o e m′ o′ → Concludes e m′ o′ s
+concludes {e = e} {m′ = m′} {o′ = o′} s a =
+    let R = a .ready in
+    let fits : releaseLength * length (take (blockCountOf m′) (set s (e .place) (e .block))) ≤ releaseLength * storeLength =
+    omega (arith, held-within (blockCountOf m′) (set s (e .place) (e .block)) .0, ready-facts (e .draft) m′ o′ R .blocks) in
+    record {
+      few = omega (arith, a .turns, ready-facts (e .draft) m′ o′ R .blocks);
+      within = omega (arith, R .room);
+      ready = λ _. ready-less (e .draft) m′ o′ (releaseLength * storeLength) _ fits R;
+    }
 
-pub accepted-reply : (k written : ℕ) → k ≡ 0 → record { refusal = 0; written = written } ≡ replyOf (answerOf k written)
-unfolding replyOf answerOf
-accepted-reply k written e = rw e
+-- ---- what was judged, in both branches
+module _ {number : Work → ℕ} {such : Work → Type 0} {t : Bool} {k : ℕ} {W : Work} (j : Judges number such t k W) where
+  pub is-accepted : t ≡ true → Accepted number such W
+  is-accepted h = let z : k ≡ 0 = eqb-true k 0 (sym (j .told) ∙ h) in record { accepted = sym (j .is) ∙ z; asked = j .shown z }
 
--- accepted or refused, rule D may be run as often as is said
-pub concludes : {judged : Work → ℕ} {f : Work → Work} {given : Work → Type 0} {c : Counters} {m o : List ℕ} {e : Done} {m′ o′ : List ℕ} (s : List Block)
-    → Performs judged f given c m o e m′ o′ → Concludes e m′ o′ s
-concludes {judged} {f} {given} {c} {m} {o} {e} {m′} {o′} s p = by (e .refusal) refl
-  where
-    by : (k : ℕ) → e .refusal ≡ k → Concludes e m′ o′ s
-    by zero q =
-        let a = p .completes q in
-        let R = a .ready in
-        let fits : releaseLength * length (take (blockCountOf m′) (set s (e .place) (e .block))) ≤ releaseLength * storeLength =
-        omega (arith, held-within (blockCountOf m′) (set s (e .place) (e .block)) .0, ready-facts (e .draft) m′ o′ R .blocks) in
-        record {
-          few = omega (arith, a .turns, ready-facts (e .draft) m′ o′ R .blocks);
-          within = omega (arith, R .room);
-          ready = λ _. ready-less (e .draft) m′ o′ (releaseLength * storeLength) _ fits R;
-        }
-    by (suc k) q =
-        let x = p .refused (λ z. let y : suc k ≡ 0 = sym q ∙ z in omega arith) .0 in
-        let idle : e .turns ≡ 0 = ap (λ (y : Done). y .turns) x in
-        let at0 : e .draft .at ≡ 0 = ap (λ (y : Done). y .draft .at) x in
-        record { few = omega (arith, idle); within = omega (arith, at0); ready = λ h. absurd (omega (arith, h, idle)) }
+  pub is-refused : t ≡ false → k ≡ 0 → ⊥
+  is-refused h = eqb-false k 0 (sym (j .told) ∙ h)
 
-pub timer-judged : (room v k : ℕ) (W : Work) → k ≡ firstOf (regionRules W room then timerRules W v) → TimerJudged room v k W
+-- the judgement left the counters as they were
+pub still-judged : {number : Work → ℕ} {such : Work → Type 0} {t : Bool} {k : ℕ} {c c′ : Counters} → c′ ≡ c → (m : List ℕ) (s : List Block) → Judges number such t k (lent c m s)
+    → Judges number such t k (lent c′ m s)
+still-judged e m s j = rw e j
+
+pub timer-numbered : {k : ℕ} (room v : ℕ) (W : Work) → k ≡ firstOf (regionRules W room then timerRules W v) → k ≡ timerNumber room v W
 unfolding timerNumber
-timer-judged room v k W e = e
+timer-numbered room v W e = e
 
--- ---- each call, from what its steps leave
-module _ (c : Counters) (m o : List ℕ) (s : List Block) (short : length s < 2 ^ 64) (e : Done) (m′ o′ : List ℕ) (d : Draft) (m₂ o₂ : List ℕ) (s₂ : List Block)
-    (turned : left d m₂ o₂ s₂ ≡ leftBy (again (e .turns) (workOf (e .draft) m′ o′ (set s (e .place) (e .block)))) o′) (r : Reply) (said : r ≡ replyOf (answerOf (e .refusal) (d .at))) where
-  answers : (x : Outcome) → x ≡ record { reply = answerOf (e .refusal) (d .at); counters = d .counters; memory = m₂; store = s₂; output = o₂ }
-      → replied r (d .counters) m₂ s₂ o₂ ≡ repliedBy x
-  answers x y = rw said (ap repliedBy (sym y))
+pub timer-accepted : {number : ℕ} {goes : Bool} {k : ℕ} → (goes ≡ eqb k 0) × (k ≡ number) → goes ≡ true → number ≡ 0
+timer-accepted {k = k} a h = sym (a .1) ∙ eqb-true k 0 (sym (a .0) ∙ h)
 
-  pub record-is : (b : List ℕ) (w : Want) (found under : Found) → RecordFound (length o) b w found under (lent c m s)
-      → Performs (recordNumber (length o) b) (onRecord b (content b)) (RecordFound (length o) b w found under) c m o e m′ o′
-      → replied r (d .counters) m₂ s₂ o₂ ≡ repliedBy (recordCall byList (lentTo c m s) o b)
-  record-is b w found under g p = answers _ (record-outcome (lentTo c m s) o short e m′ o′ b w found under g p turned)
+-- ---- each call, taken or refused
+module _ (c : Counters) (m o : List ℕ) (s : List Block) where
+  abbrev R : Replica
+  R = lentTo c m s
 
-  pub propose-is : (x : List ℕ) (w : Want) (found under : Found) → ProposeFound (length o) x w found under (lent c m s)
-      → Performs (proposeNumber (length o) x) (onPropose x) (ProposeFound (length o) x w found under) c m o e m′ o′
-      → replied r (d .counters) m₂ s₂ o₂ ≡ repliedBy (proposeCall byList (lentTo c m s) o x)
-  propose-is x w found under g p = answers _ (propose-outcome (lentTo c m s) o short e m′ o′ x w found under g p turned)
+  -- what is replied where a call is refused
+  stays : (x : Outcome) (k : ℕ) (r : Reply) → x ≡ outcome R o (refuses k) → r ≡ replyOf (refuses k) → replied r c m s o ≡ repliedBy x
+  unfolding outcome
+  stays x k r e q = rw (e, q)
 
-  pub timer-is : (v k : ℕ) → TimerJudged (length o) v k (lent c m s)
-      → Performs (timerNumber (length o) v) (onTimer v) (TimerJudged (length o) v k) c m o e m′ o′
-      → replied r (d .counters) m₂ s₂ o₂ ≡ repliedBy (timerCall (lentTo c m s) o v)
-  timer-is v k g p = answers _ (timer-outcome (lentTo c m s) o short e m′ o′ v k g p turned)
+  module _ (j : Judged) (r : Reply) (said : r ≡ replyOf (refuses (j .refusal))) (off : j .accepted ≡ false) where
+    pub record-unmade : (b : List ℕ) → Judges (recordNumber (length o) b) (Asked b (j .held)) (j .accepted) (j .refusal) (lent c m s) → replied r c m s o ≡ repliedBy (recordCall byList R o b)
+    record-unmade b a = stays _ (j .refusal) r (record-refused R o b (j .refusal) (a .is) (is-refused a off)) said
+
+    pub propose-unmade : (x : List ℕ) → Judges (proposeNumber (length o) x) (Proposable x (j .below .0)) (j .accepted) (j .refusal) (lent c m s) → replied r c m s o ≡ repliedBy (proposeCall byList R o x)
+    propose-unmade x a = stays _ (j .refusal) r (propose-refused R o x (j .refusal) (a .is) (is-refused a off)) said
+
+  pub timer-unmade : (v k : ℕ) (goes : Bool) (r : Reply) → r ≡ replyOf (refuses k) → goes ≡ false → (goes ≡ eqb k 0) × (k ≡ timerNumber (length o) v (lent c m s)) → replied r c m s o ≡ repliedBy (timerCall R o v)
+  timer-unmade v k goes r said off a = stays _ k r (timer-refused R o v k (a .1) (eqb-false k 0 (sym (a .0) ∙ off))) said
+
+  -- after rule D
+  module _ (short : length s < 2 ^ 64) (e : Done) (m′ o′ : List ℕ) (d : Draft) (m₂ o₂ : List ℕ) (s₂ : List Block)
+      (turned : left d m₂ o₂ s₂ ≡ leftBy (again (e .turns) (workOf (e .draft) m′ o′ (set s (e .place) (e .block)))) o′) (r : Reply) (said : r ≡ replyOf (accepts (d .at))) where
+    answers : (x : Outcome) → x ≡ record { reply = accepts (d .at); counters = d .counters; memory = m₂; store = s₂; output = o₂ } → replied r (d .counters) m₂ s₂ o₂ ≡ repliedBy x
+    answers x y = rw said (ap repliedBy (sym y))
+
+    pub record-made : (b : List ℕ) (t : Bool) → Accepted (recordNumber (length o) b) (Asked b t) (lent c m s) → Completes (onRecord b (content b)) (Asked b t) c m o e m′ o′
+        → replied r (d .counters) m₂ s₂ o₂ ≡ repliedBy (recordCall byList R o b)
+    record-made b t a p = answers _ (record-taken R o b t a short p turned)
+
+    pub propose-made : (x : List ℕ) (h : ℕ) → Accepted (proposeNumber (length o) x) (Proposable x h) (lent c m s) → Completes (onPropose x) (Proposable x h) c m o e m′ o′
+        → replied r (d .counters) m₂ s₂ o₂ ≡ repliedBy (proposeCall byList R o x)
+    propose-made x h a p = answers _ (propose-taken R o x h a short p turned)
+
+    pub timer-made : (v : ℕ) → timerNumber (length o) v (lent c m s) ≡ 0 → Completes (onTimer v) Always c m o e m′ o′ → replied r (d .counters) m₂ s₂ o₂ ≡ repliedBy (timerCall R o v)
+    timer-made v a p = answers _ (timer-taken R o v (record { accepted = a; asked = tt }) short p turned)
 
 -- ---- a call with contents: the call without them where they refuse nothing, or else what they refuse it by
 module _ (c c′ : Counters) (m o : List ℕ) (s : List Block) (x : Replied) (due : ℕ) (goes : Bool) (stays : c′ ≡ c) (asked : goes ≡ eqb due 0) where

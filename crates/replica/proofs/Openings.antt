@@ -1,5 +1,5 @@
 -- Openings: refused settings, a refused list, refused lengths, and an opening that is accepted. Assumes nothing.
-use Prim.Native.Nat.{ℕ, _≤_, _<_, _^_}
+use Prim.Native.Nat.{ℕ, zero, suc, _≤_, _<_, _^_}
 use native.Mathlib.Omega.{arith}
 use mathlib.Core.Path.{_≡_, refl, sym, ap, _∙_}
 use mathlib.Core.Bool.{Bool, true, false, not, cond}
@@ -107,6 +107,12 @@ own-small f c k n own s e =
     by true false false p q g = omega (arith, ltb-false largest n p, leb-false n own q)
 
 -- the call, from what its steps leave
+-- an opening writes no bytes: whatever its number is, it is replied as a refusal's
+no-bytes : (k : ℕ) → replyOf (refuses k) ≡ replyOf (answerOf k 0)
+unfolding replyOf answerOf
+no-bytes zero = refl
+no-bytes (suc k) = refl
+
 pub opening-is : (c : Counters) (m : List ℕ) (l : List Block) (f b k n own : ℕ) (leaders : List ℕ) (e : Opened) (m′ : List ℕ) → openedOutcome e m′ l ≡ openingCall (lentTo c m l) f b k n own leaders
-    → (r : Reply) → r ≡ replyOf (answerOf (e .refusal) 0) → replied r (e .counters) m′ l [] ≡ repliedBy (openingCall (lentTo c m l) f b k n own leaders)
-opening-is c m l f b k n own leaders e m′ x r said = rw said (ap repliedBy x)
+    → (r : Reply) → r ≡ replyOf (refuses (e .refusal)) → replied r (e .counters) m′ l [] ≡ repliedBy (openingCall (lentTo c m l) f b k n own leaders)
+opening-is c m l f b k n own leaders e m′ x r said = rw (said ∙ no-bytes (e .refusal)) (ap repliedBy x)

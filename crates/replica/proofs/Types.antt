@@ -2,9 +2,10 @@
 use Rattle.walks.proofs.Walk.LL
 use mir.Syntax.{Ty}
 use denote.RattleType.{RattleType}
-use Rattle.walks.proofs.Data.{Data, At, again, word, bytes, struct, field-bytes}
+use Rattle.walks.proofs.Data.{Data, At, again, word, flag, bytes, struct, field-bytes}
 use Rattle.counters.proofs.Types.{Countersᴰ}
 use Rattle.blocks.proofs.Types.{Blockᴰ}
+use Rattle.counters.proofs.Types.{Heightᴰ}
 use Rattle.act.specs.declared.Draft.{Draft}
 use Rattle.act.proofs.Draft as Draftᵐ
 use Rattle.act.proofs.Draft.Laws as Draft′
@@ -14,6 +15,9 @@ use Rattle.judge.proofs.Want.Laws as Want′
 use Rattle.perform.specs.declared.Done.{Done}
 use Rattle.perform.proofs.Done as Doneᵐ
 use Rattle.perform.proofs.Done.Laws as Done′
+use Rattle.perform.specs.declared.Judged.{Judged}
+use Rattle.perform.proofs.Judged as Judgedᵐ
+use Rattle.perform.proofs.Judged.Laws as Judged′
 use Rattle.replica.specs.declared.Reply.{Reply}
 use Rattle.replica.proofs.Reply as Replyᵐ
 use Rattle.replica.proofs.Reply.Laws as Reply′
@@ -69,20 +73,38 @@ Doneᵀ = Done′.mir
 abbrev pub Doneᴰ : Data Doneᴿ
 Doneᴰ = struct Doneᵐ.the-type Done′.the-laws Done′.the-plain Done′.lowers
 
-pub Done-refusal : (x : Done) → At Doneᴰ x → At word (x .refusal)
-Done-refusal x is = LL.owed Doneᵐ.the-type Done′.the-laws x _ is .0
-
 pub Done-draft : (x : Done) → At Doneᴰ x → At Draftᴰ (x .draft)
-Done-draft x is = again Draftᴰ (x .draft) _ (LL.owed Doneᵐ.the-type Done′.the-laws x _ is .1 .0)
+Done-draft x is = again Draftᴰ (x .draft) _ (LL.owed Doneᵐ.the-type Done′.the-laws x _ is .0)
 
 pub Done-place : (x : Done) → At Doneᴰ x → At word (x .place)
-Done-place x is = LL.owed Doneᵐ.the-type Done′.the-laws x _ is .1 .1 .0
+Done-place x is = LL.owed Doneᵐ.the-type Done′.the-laws x _ is .1 .0
 
 pub Done-block : (x : Done) → At Doneᴰ x → At Blockᴰ (x .block)
-Done-block x is = again Blockᴰ (x .block) _ (LL.owed Doneᵐ.the-type Done′.the-laws x _ is .1 .1 .1 .0)
+Done-block x is = again Blockᴰ (x .block) _ (LL.owed Doneᵐ.the-type Done′.the-laws x _ is .1 .1 .0)
 
 pub Done-turns : (x : Done) → At Doneᴰ x → At word (x .turns)
-Done-turns x is = LL.owed Doneᵐ.the-type Done′.the-laws x _ is .1 .1 .1 .1 .0
+Done-turns x is = LL.owed Doneᵐ.the-type Done′.the-laws x _ is .1 .1 .1 .0
+
+abbrev pub Judgedᴿ : RattleType
+Judgedᴿ = Judgedᵐ.the-row
+
+abbrev pub Judgedᵀ : Ty
+Judgedᵀ = Judged′.mir
+
+abbrev pub Judgedᴰ : Data Judgedᴿ
+Judgedᴰ = struct Judgedᵐ.the-type Judged′.the-laws Judged′.the-plain Judged′.lowers
+
+pub Judged-accepted : (x : Judged) → At Judgedᴰ x → At flag (x .accepted)
+Judged-accepted x is = LL.owed Judgedᵐ.the-type Judged′.the-laws x _ is .0
+
+pub Judged-refusal : (x : Judged) → At Judgedᴰ x → At word (x .refusal)
+Judged-refusal x is = LL.owed Judgedᵐ.the-type Judged′.the-laws x _ is .1 .0
+
+pub Judged-held : (x : Judged) → At Judgedᴰ x → At flag (x .held)
+Judged-held x is = LL.owed Judgedᵐ.the-type Judged′.the-laws x _ is .1 .1 .0
+
+pub Judged-below : (x : Judged) → At Judgedᴰ x → At Heightᴰ (x .below)
+Judged-below x is = again Heightᴰ (x .below) _ (LL.owed Judgedᵐ.the-type Judged′.the-laws x _ is .1 .1 .1 .0)
 
 abbrev pub Replyᴿ : RattleType
 Replyᴿ = Replyᵐ.the-row

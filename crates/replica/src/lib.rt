@@ -2,8 +2,8 @@
 // over settings and a record, and the name of a block (02, 2.5).
 // Promises: each call, on any content and length of what is lent and with any input, replies and leaves what `openingCall`, `recordCall`, `timerCall` and
 // `proposeCall` of `protocol` say, and with contents `recordCallWith` and `proposeCallWith`, with the leader by the list that was opened with, of which demand 3 speaks; `hydrangea_decisive` answers what `decisiveCall` of `decisive` says,
-// and `hydrangea_name` what `nameCall` of `digest` says. No public function has a `requires`. Rests on `judge`, `perform`, `release`, `decisive` and `digest`; the calls without contents have no branch, and those with contents
-// one: they end in the calls without, or are refused.
+// and `hydrangea_name` what `nameCall` of `digest` says. No public function has a `requires`. Rests on `judge`, `perform`, `release`, `decisive` and `digest`. A call is judged first, which
+// writes nothing, and what is left of it is done where it is accepted; a call with contents is refused by these, or it is the call without them.
 // They are exported by their own names, hence the prefix: a library that exports `open` would take the place of the C library's.
 use act::Draft;
 use blocks::Block;
@@ -20,8 +20,12 @@ use judge::contents::propose_due;
 use judge::contents::propose_want;
 use judge::contents::record_due;
 use perform::Done;
+use perform::Judged;
+use perform::late_propose;
+use perform::late_record;
 use release::release_all;
 use settings::Admission;
+use settings::Height;
 use settings::Settings;
 use settings::View;
 use settings::admit;
@@ -30,17 +34,18 @@ ghost use mathlib.Core.Path.{_≡_};
 ghost use mathlib.Core.Bool.{cond};
 ghost use mathlib.Core.List.{List, []};
 ghost use lib.Dec.{eqb};
-ghost use Rattle.settings.specs.Answer.{refuses};
+ghost use Rattle.settings.specs.Answer.{accepts, refuses};
 ghost use lib.ListN.{length, set};
 ghost use Rattle.memory.specs.Leaders.{byList};
 ghost use Rattle.protocol.specs.Rules.{again};
 ghost use Rattle.protocol.specs.Contents.{given};
 ghost use Rattle.protocol.specs.Calls.{outcome, recordCall, timerCall, proposeCall, openingCall, recordCallWith, proposeCallWith};
-ghost use Rattle.refusals.specs.Number.{answerOf};
 ghost use Rattle.refusals.specs.Early.{lent};
 ghost use Rattle.judge.specs.Contents.{recordDue, proposeRefusal};
 ghost use Rattle.act.specs.Draft.{workOf, left, leftBy};
 ghost use Rattle.blocks.specs.declared.Block.{Block};
+ghost use Rattle.event.specs.Event.{Asked, Proposable};
+ghost use Rattle.perform.specs.Perform.{Judges, Accepted, timerNumber, proposeNumber, recordNumber};
 ghost use Rattle.decisive.specs.Decisive.{decisiveCall};
 ghost use Rattle.decisive.specs.Reply.{replyOf as decisiveReply};
 ghost use Rattle.digest.specs.Name.{nameCall, replyOf as nameReply};
@@ -60,20 +65,30 @@ pub struct Name {
     pub bytes: [u8; 32],
 }
 
-// A refused call has written nothing.
-fn answer(refusal: u64, written: usize) -> Reply
-    ensures { λ r. ⌜ r ≡ replyOf (answerOf refusal written) ⌝ }
+// The reply of a call that writes no bytes: one that is refused, and any opening.
+fn numbered(number: u64) -> Reply
+    ensures { λ r. ⌜ r ≡ replyOf (refuses number) ⌝ }
 {
-    if refusal != 0 {
-        return Reply {
-            refusal,
-            written: 0,
-        };
+    Reply {
+        refusal: number,
+        written: 0,
     }
+}
+
+fn accepted(written: usize) -> Reply
+    ensures { λ r. ⌜ r ≡ replyOf (accepts written) ⌝ }
+{
     Reply {
         refusal: 0,
         written,
     }
+}
+
+// A number that refuses nothing.
+fn passes(number: u64) -> bool
+    ensures { λ r. ⌜ r ≡ eqb number 0 ⌝ }
+{
+    number == 0
 }
 
 // The block is filled in, and rule D is run.
@@ -84,6 +99,64 @@ fn conclude(mem: &mut [u8], store: &mut [Block], out: &mut [u8], done: Done) -> 
 {
     fill(store, done.place, done.block);
     release_all(mem, store, out, done.draft, done.turns)
+}
+
+// A record's judgement; nothing is written.
+fn record_judged(
+    counters: &mut Counters,
+    mem: &[u8],
+    store: &[Block],
+    room: usize,
+    rec: &[u8],
+) -> Judged
+    ensures { λ r. ⌜ (now (counters .exit) ≡ now (counters .entry))
+        × Judges (recordNumber room (now (rec .entry))) (Asked (now (rec .entry)) (r .held)) (r .accepted) (r .refusal) (lent (now (counters .entry)) (now (mem .entry)) (now (store .entry))) ⌝ }
+{
+    let c = *counters;
+    let want = judge::record(c, mem, store.len(), room, rec);
+    let found = held(store, want.count, c.tip, want.name);
+    let under = held(store, want.count, c.tip, want.base);
+    late_record(rec, want, found, under)
+}
+
+// A record that is accepted; whether its block is held.
+fn record_taken(
+    counters: &mut Counters,
+    mem: &mut [u8],
+    store: &mut [Block],
+    out: &mut [u8],
+    rec: &[u8],
+    held: bool,
+) -> Reply
+    requires { ⌜ Accepted (recordNumber (length (now out)) (now rec)) (Asked (now rec) held) (lent (now counters) (now mem) (now store)) ⌝ }
+    ensures { λ r. ⌜ replied r (now (counters .exit)) (now (mem .exit)) (now (store .exit)) (now (out .exit))
+        ≡ repliedBy (recordCall byList (lentTo (now (counters .entry)) (now (mem .entry)) (now (store .entry))) (now (out .entry)) (now (rec .entry))) ⌝ }
+{
+    let c = *counters;
+    let done = perform::record(c, mem, out, rec, held);
+    let d = conclude(mem, store, out, done);
+    *counters = d.counters;
+    accepted(d.at)
+}
+
+// A record that was judged is taken or refused.
+fn record_answered(
+    counters: &mut Counters,
+    mem: &mut [u8],
+    store: &mut [Block],
+    out: &mut [u8],
+    rec: &[u8],
+    judged: Judged,
+) -> Reply
+    requires { ⌜ Judges (recordNumber (length (now out)) (now rec)) (Asked (now rec) (judged .held)) (judged .accepted) (judged .refusal) (lent (now counters) (now mem) (now store)) ⌝ }
+    ensures { λ r. ⌜ replied r (now (counters .exit)) (now (mem .exit)) (now (store .exit)) (now (out .exit))
+        ≡ repliedBy (recordCall byList (lentTo (now (counters .entry)) (now (mem .entry)) (now (store .entry))) (now (out .entry)) (now (rec .entry))) ⌝ }
+{
+    if judged.accepted {
+        record_taken(counters, mem, store, out, rec, judged.held)
+    } else {
+        numbered(judged.refusal)
+    }
 }
 
 // A record of any bytes.
@@ -98,31 +171,8 @@ pub extern "C" fn hydrangea_record(
     ensures { λ r. ⌜ replied r (now (counters .exit)) (now (mem .exit)) (now (store .exit)) (now (out .exit))
         ≡ repliedBy (recordCall byList (lentTo (now (counters .entry)) (now (mem .entry)) (now (store .entry))) (now (out .entry)) (now (rec .entry))) ⌝ }
 {
-    let c = *counters;
-    let want = judge::record(c, mem, store.len(), out.len(), rec);
-    let found = held(store, want.count, c.tip, want.name);
-    let under = held(store, want.count, c.tip, want.base);
-    let done = perform::record(c, mem, out, rec, want, found, under);
-    let d = conclude(mem, store, out, done);
-    *counters = d.counters;
-    answer(done.refusal, d.at)
-}
-
-// Contents refuse nothing.
-fn passes(due: u64) -> bool
-    ensures { λ r. ⌜ r ≡ eqb due 0 ⌝ }
-{
-    due == 0
-}
-
-// What contents refuse a call by.
-fn refused(due: u64) -> Reply
-    ensures { λ r. ⌜ r ≡ replyOf (refuses due) ⌝ }
-{
-    Reply {
-        refusal: due,
-        written: 0,
-    }
+    let judged = record_judged(counters, mem, store, out.len(), rec);
+    record_answered(counters, mem, store, out, rec, judged)
 }
 
 // What contents refuse a record by, or 0; nothing is written.
@@ -158,7 +208,7 @@ fn record_or(
     if goes {
         hydrangea_record(counters, mem, store, out, rec)
     } else {
-        refused(due)
+        numbered(due)
     }
 }
 
@@ -187,6 +237,55 @@ fn view_of(number: u64) -> View
     View(number)
 }
 
+// A timer's judgement; nothing is written.
+fn timer_judged(counters: &mut Counters, mem: &[u8], entries: usize, room: usize, view: View) -> u64
+    ensures { λ r. ⌜ (now (counters .exit) ≡ now (counters .entry))
+        × ((s : List Block) → length s ≡ entries → r ≡ timerNumber room (view .0) (lent (now (counters .entry)) (now (mem .entry)) s)) ⌝ }
+{
+    let c = *counters;
+    judge::timer(c, mem, entries, room, view)
+}
+
+// A timer that is accepted.
+fn timer_taken(
+    counters: &mut Counters,
+    mem: &mut [u8],
+    store: &mut [Block],
+    out: &mut [u8],
+    view: View,
+) -> Reply
+    requires { ⌜ timerNumber (length (now out)) (view .0) (lent (now counters) (now mem) (now store)) ≡ 0 ⌝ }
+    ensures { λ r. ⌜ replied r (now (counters .exit)) (now (mem .exit)) (now (store .exit)) (now (out .exit))
+        ≡ repliedBy (timerCall (lentTo (now (counters .entry)) (now (mem .entry)) (now (store .entry))) (now (out .entry)) (view .0)) ⌝ }
+{
+    let c = *counters;
+    let done = perform::timer(c, mem, out, view);
+    let d = conclude(mem, store, out, done);
+    *counters = d.counters;
+    accepted(d.at)
+}
+
+// A timer of which the number is known is taken or refused.
+fn timer_answered(
+    counters: &mut Counters,
+    mem: &mut [u8],
+    store: &mut [Block],
+    out: &mut [u8],
+    view: View,
+    goes: bool,
+    number: u64,
+) -> Reply
+    requires { ⌜ (goes ≡ eqb number 0) × (number ≡ timerNumber (length (now out)) (view .0) (lent (now counters) (now mem) (now store))) ⌝ }
+    ensures { λ r. ⌜ replied r (now (counters .exit)) (now (mem .exit)) (now (store .exit)) (now (out .exit))
+        ≡ repliedBy (timerCall (lentTo (now (counters .entry)) (now (mem .entry)) (now (store .entry))) (now (out .entry)) (view .0)) ⌝ }
+{
+    if goes {
+        timer_taken(counters, mem, store, out, view)
+    } else {
+        numbered(number)
+    }
+}
+
 // The timer of a view.
 #[no_mangle]
 pub extern "C" fn hydrangea_timer(
@@ -199,13 +298,68 @@ pub extern "C" fn hydrangea_timer(
     ensures { λ r. ⌜ replied r (now (counters .exit)) (now (mem .exit)) (now (store .exit)) (now (out .exit))
         ≡ repliedBy (timerCall (lentTo (now (counters .entry)) (now (mem .entry)) (now (store .entry))) (now (out .entry)) view) ⌝ }
 {
-    let c = *counters;
     let expired = view_of(view);
-    let number = judge::timer(c, mem, store.len(), out.len(), expired);
-    let done = perform::timer(c, mem, out, number, expired);
+    let number = timer_judged(counters, mem, store.len(), out.len(), expired);
+    let goes = passes(number);
+    timer_answered(counters, mem, store, out, expired, goes, number)
+}
+
+// A propose's judgement; nothing is written.
+fn propose_judged(
+    counters: &mut Counters,
+    mem: &[u8],
+    store: &[Block],
+    room: usize,
+    name: Name,
+) -> Judged
+    ensures { λ r. ⌜ (now (counters .exit) ≡ now (counters .entry))
+        × Judges (proposeNumber room (name .bytes)) (Proposable (name .bytes) (r .below .0)) (r .accepted) (r .refusal) (lent (now (counters .entry)) (now (mem .entry)) (now (store .entry))) ⌝ }
+{
+    let c = *counters;
+    let want = judge::propose(c, mem, store.len(), room, name.bytes);
+    let found = held(store, want.count, c.tip, want.name);
+    let under = held(store, want.count, c.tip, want.base);
+    late_propose(want, found, under)
+}
+
+// A propose that is accepted; the height of the block below.
+fn propose_taken(
+    counters: &mut Counters,
+    mem: &mut [u8],
+    store: &mut [Block],
+    out: &mut [u8],
+    name: Name,
+    below: Height,
+) -> Reply
+    requires { ⌜ Accepted (proposeNumber (length (now out)) (name .bytes)) (Proposable (name .bytes) (below .0)) (lent (now counters) (now mem) (now store)) ⌝ }
+    ensures { λ r. ⌜ replied r (now (counters .exit)) (now (mem .exit)) (now (store .exit)) (now (out .exit))
+        ≡ repliedBy (proposeCall byList (lentTo (now (counters .entry)) (now (mem .entry)) (now (store .entry))) (now (out .entry)) (name .bytes)) ⌝ }
+{
+    let c = *counters;
+    let done = perform::propose(c, mem, out, name.bytes, below);
     let d = conclude(mem, store, out, done);
     *counters = d.counters;
-    answer(done.refusal, d.at)
+    accepted(d.at)
+}
+
+// A propose that was judged is taken or refused.
+fn propose_answered(
+    counters: &mut Counters,
+    mem: &mut [u8],
+    store: &mut [Block],
+    out: &mut [u8],
+    name: Name,
+    judged: Judged,
+) -> Reply
+    requires { ⌜ Judges (proposeNumber (length (now out)) (name .bytes)) (Proposable (name .bytes) (judged .below .0)) (judged .accepted) (judged .refusal) (lent (now counters) (now mem) (now store)) ⌝ }
+    ensures { λ r. ⌜ replied r (now (counters .exit)) (now (mem .exit)) (now (store .exit)) (now (out .exit))
+        ≡ repliedBy (proposeCall byList (lentTo (now (counters .entry)) (now (mem .entry)) (now (store .entry))) (now (out .entry)) (name .bytes)) ⌝ }
+{
+    if judged.accepted {
+        propose_taken(counters, mem, store, out, name, judged.below)
+    } else {
+        numbered(judged.refusal)
+    }
 }
 
 // A block of a name is proposed.
@@ -220,14 +374,8 @@ pub extern "C" fn hydrangea_propose(
     ensures { λ r. ⌜ replied r (now (counters .exit)) (now (mem .exit)) (now (store .exit)) (now (out .exit))
         ≡ repliedBy (proposeCall byList (lentTo (now (counters .entry)) (now (mem .entry)) (now (store .entry))) (now (out .entry)) (name .bytes)) ⌝ }
 {
-    let c = *counters;
-    let want = judge::propose(c, mem, store.len(), out.len(), name.bytes);
-    let found = held(store, want.count, c.tip, want.name);
-    let under = held(store, want.count, c.tip, want.base);
-    let done = perform::propose(c, mem, out, name.bytes, want, found, under);
-    let d = conclude(mem, store, out, done);
-    *counters = d.counters;
-    answer(done.refusal, d.at)
+    let judged = propose_judged(counters, mem, store, out.len(), name);
+    propose_answered(counters, mem, store, out, name, judged)
 }
 
 // What contents refuse a propose by, or 0; nothing is written.
@@ -266,7 +414,7 @@ fn propose_or(
     if goes {
         hydrangea_propose(counters, mem, store, out, name)
     } else {
-        refused(due)
+        numbered(due)
     }
 }
 
@@ -369,7 +517,7 @@ pub extern "C" fn hydrangea_open(
     let old = *counters;
     let done = opening(old, mem, store.len(), f, c, k, n, own, leaders);
     *counters = done.counters;
-    answer(done.refusal, 0)
+    numbered(done.refusal)
 }
 
 // Whose timeout decided it: settings and n, and a record of any bytes. A function of a lower crate isn't exported, so it stands here.

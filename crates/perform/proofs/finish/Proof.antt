@@ -22,7 +22,7 @@ same-length-2 : tie.Need-same-length-2
 same-length-2 c = search needs
 
 returns : tie.Need-returns
-returns c = ((refl, (refl, refl)), (c .before .before .before .before .before .before .run .ensures, (c .block-count .ensures, run-ready (c .before .before .before .before .before .before .before .before .before .before .before .pre) (draft-typed (c .before .before .before .before .before .before .before .before .before .before .before .args .d) (c .before .before .before .before .before .before .before .before .before .before .before .good .1 .1 .0)) (λ j. c .before .before .before .before .before .before .before .before .before .before .slice-known .given j .fits) (c .before .before .before .before .before .before .run .ensures))))
+returns c = ((refl, refl), (c .before .before .before .before .before .before .run .ensures, (c .block-count .ensures, run-ready (c .before .before .before .before .before .before .before .before .before .before .before .pre) (draft-typed (c .before .before .before .before .before .before .before .before .before .before .before .args .d) (c .before .before .before .before .before .before .before .before .before .before .before .good .1 .1 .0)) (λ j. c .before .before .before .before .before .before .before .before .before .before .slice-known .given j .fits) (c .before .before .before .before .before .before .run .ensures))))
 
 pub finish-spec : {M : Type 1} → statement M
 finish-spec =

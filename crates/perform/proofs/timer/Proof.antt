@@ -1,26 +1,23 @@
 use Rattle.protocol.specs.Events.{onTimer}
+use Rattle.act.proofs.Types.{counters-typed, view-typed}
+use Rattle.act.proofs.Steps.{ready-less}
 use Rattle.event.specs.Event.{Always}
-use Rattle.perform.specs.Perform.{timerNumber, TimerJudged}
-use Rattle.perform.proofs.Completing.{performs-refused, performs-completed, completes-given, timer-passed, ended, went-on}
-use mathlib.Core.Path.{sym, _∙_}
+use Rattle.perform.specs.Perform.{fresh}
+use Rattle.perform.proofs.Completing.{timer-passed, timer-ready, completes}
 use borrow.Author.Needs.{needs}
+use native.Mathlib.Omega.{arith}
 use Rattle.perform.proofs.timer.Statement.{statement}
 use Rattle.perform.proofs.timer.Tie as tie
-use Rattle.perform.proofs.ends.Reads as ends-reads
-use Rattle.perform.proofs.refused.Reads as refused-reads
-use Rattle.perform.proofs.timer_accepted.Reads as timer-accepted-reads
+use Rattle.perform.proofs.timer.Reads as reads
+use Rattle.perform.proofs.timer.Lts as lts
+use Rattle.event.proofs.host.on_timer.Reads as on-timer-reads
+use Rattle.perform.proofs.finish.Reads as finish-reads
 
-refused-requires : tie.Need-refused-requires
-refused-requires c κs = search needs
+on-timer-requires : tie.Need-on-timer-requires
+on-timer-requires c κs = ready-less _ _ _ _ _ (omega arith) (timer-passed (c .before .before .before .before .args .c) _ _ (c .before .before .before .before .args .view .0) (c .before .before .before .before .pre))
 
-ends-requires : tie.Need-ends-requires
-ends-requires c κs = search needs
-
-returns : tie.Need-returns
-returns c = performs-refused (timerNumber _ (c .before .before .before .before .before .args .view .0)) (onTimer (c .before .before .before .before .before .args .view .0)) (TimerJudged _ (c .before .before .before .before .before .args .view .0) (c .before .before .before .before .before .args .number)) (c .before .before .before .before .before .args .number) (c .before .before .refused .ensures) (ended (c .before .before .refused .ensures) (c .before .ends .ensures) (c .if1 .taken)) (λ s g. g)
-
-timer-accepted-requires : tie.Need-timer-accepted-requires
-timer-accepted-requires c κs = timer-passed (c .before .before .before .before .before .before .before .args .c) _ _ (c .before .before .before .before .before .before .before .args .view .0) (c .before .before .before .before .before .before .before .args .number) (c .before .before .before .before .before .before .before .pre) (went-on (c .before .before .before .before .refused .ensures) (c .before .before .before .ends .ensures) (c .before .before .if1 .left))
+finish-requires : tie.Need-finish-requires
+finish-requires c κs = timer-ready (fresh (c .before .before .before .before .before .before .before .before .before .before .before .args .c)) _ _ (c .before .before .before .before .before .before .before .before .before .before .before .args .view .0) (view-typed (c .before .before .before .before .before .before .before .before .before .before .before .args .view) (c .before .before .before .before .before .before .before .before .before .before .before .good .1 .1 .1 .0)) (counters-typed (c .before .before .before .before .before .before .before .before .before .before .before .args .c) _ (c .before .before .before .before .before .before .before .before .before .before .before .good .0)) (λ j. c .before .before .before .before .before .before .before .before .before .before .slice-known .given j .fits) (timer-passed (c .before .before .before .before .before .before .before .before .before .before .before .args .c) _ _ (c .before .before .before .before .before .before .before .before .before .before .before .args .view .0) (c .before .before .before .before .before .before .before .before .before .before .before .pre)) (c .before .before .before .before .before .before .on-timer .ensures)
 
 same-length : tie.Need-same-length
 same-length c = search needs
@@ -28,17 +25,9 @@ same-length c = search needs
 same-length-2 : tie.Need-same-length-2
 same-length-2 c = search needs
 
-returns-2 : tie.Need-returns-2
-returns-2 c = performs-completed (timerNumber _ (c .before .before .before .before .before .before .before .before .before .before .before .before .args .view .0)) (onTimer (c .before .before .before .before .before .before .before .before .before .before .before .before .args .view .0)) (TimerJudged _ (c .before .before .before .before .before .before .before .before .before .before .before .before .args .view .0) (c .before .before .before .before .before .before .before .before .before .before .before .before .args .number)) (completes-given (onTimer (c .before .before .before .before .before .before .before .before .before .before .before .before .args .view .0)) Always _ (λ s g. tt) (c .before .before .before .before .timer-accepted .ensures)) (λ s g. sym (went-on (c .before .before .before .before .before .before .before .before .before .refused .ensures) (c .before .before .before .before .before .before .before .before .ends .ensures) (c .before .before .before .before .before .before .before .if1 .left)) ∙ g)
+returns : tie.Need-returns
+returns c = completes (onTimer (c .before .before .before .before .before .before .before .before .before .before .before .before .before .before .before .before .args .view .0)) Always (c .before .before .before .before .before .before .before .before .before .before .before .on-timer .ensures) (c .before .before .before .before .finish .ensures)
 
 pub timer-spec : {M : Type 1} → statement M
 timer-spec =
-    tie.close
-    (tie.spec
-    refused-requires
-    ends-requires
-    returns
-    timer-accepted-requires
-    same-length
-    same-length-2
-    returns-2)
+    tie.close (tie.spec on-timer-requires finish-requires same-length same-length-2 returns)

@@ -1,14 +1,14 @@
 -- `replica::hydrangea_open` meets its contract: a walk of its MIR. tools/walk.py wrote it from hydrangea_open.py.
 -- Assumes nothing.
 use Rattle.walks.proofs.Walk.{_≡_, refl, ℕ, [], _∷_, List, length, URA, fullShare, named, w64, tyInt, Val, vptr, SProp, ent, id⊢, emp, via, fst∗, GName, Lft, Share, ftrue, flft, Memory, Routine, Heap, Calls, Loops, WpFn, Tables, Atoms, Fun, givenOf, tables, tablesOf, Given, ‵, _⊛_, _$_, _∵_, !, qed, move, drop, use1, split, fsplit, fsplit3, fjoin3, feqI, keep, look, look-raw, init, store-raw, stop, hop, fld, from, load, addr, of-opd, and-then, no-more, assigns, returns, enter, alloc1}
-use Rattle.walks.proofs.Walk.{alloc0, params1, pass1, pass0, lit, agg, whole, sub, look-in, FmC, fmOf, WpFn-mono, owns, Is, shows, mem, u8, u64, MutRef, ptr-vals, mut-tells, sliceVal, MutSlice, Room, slice-vals, mut-slice-tells, ShrSlice, shr-slice-tells, shr-slice-copy, plain, shrSliceOf, opens, closes, owned, peeks, spelt, onEntry, Meets, tripleOf, Contract, Triple, calls-at, entered, cited, Stays, stay-ref, stay-dropped, walkOf, AllGo, goes-dropped, goes-ref, Walks, walked, walk-meets, stay-slice, goes-slice, yes, lit<, true, false}
+use Rattle.walks.proofs.Walk.{alloc0, params1, pass1, pass0, agg, whole, sub, look-in, FmC, fmOf, WpFn-mono, owns, Is, shows, mem, u8, u64, MutRef, ptr-vals, mut-tells, sliceVal, MutSlice, Room, slice-vals, mut-slice-tells, ShrSlice, shr-slice-tells, shr-slice-copy, plain, shrSliceOf, opens, closes, owned, peeks, spelt, onEntry, Meets, tripleOf, Contract, Triple, calls-at, entered, cited, Stays, stay-ref, stay-dropped, walkOf, AllGo, goes-dropped, goes-ref, Walks, walked, walk-meets, stay-slice, goes-slice, yes, true, false}
 use Rattle.walks.proofs.Data.{fits, word}
 use Rattle.walks.proofs.Calls.{end, held, made, so, of, asks, back-again, came, full, leave, ends}
 use Rattle.walks.proofs.Lent.{lying, Shr, lend-mut}
 use lib.ListN.{length}
 use Rattle.blocks.specs.declared.Block.{Block}
 use Rattle.protocol.specs.Calls.{openingCall}
-use Rattle.refusals.specs.Number.{answerOf}
+use Rattle.settings.specs.Answer.{refuses}
 use Rattle.replica.specs.Openings.{openedOutcome}
 use Rattle.replica.specs.Reply.{replyOf, lentTo, replied, repliedBy}
 use Rattle.replica.proofs.Openings.{opening-is}
@@ -20,9 +20,9 @@ use Rattle.replica.proofs.Types.{Openedᴰ, Opened-refusal, Opened-coun
 use Rattle.replica.proofs.opening as opening
 use Rattle.replica.proofs.opening.Symbol as opening-def
 use Rattle.replica.proofs.opening.Met as opening-thm
-use Rattle.replica.proofs.answer as answer
-use Rattle.replica.proofs.answer.Symbol as answer-def
-use Rattle.replica.proofs.answer.Met as answer-thm
+use Rattle.replica.proofs.numbered as numbered
+use Rattle.replica.proofs.numbered.Symbol as numbered-def
+use Rattle.replica.proofs.numbered.Met as numbered-thm
 use Rattle.replica.proofs.hydrangea_open.Key.{name as #f}
 use Rattle.replica.proofs.hydrangea_open as f
 use Rattle.replica.proofs.hydrangea_open.Statement as stated
@@ -35,12 +35,12 @@ module _ {M : Type 1} (𝓤 : URA M) (H : Heap 𝓤) (A : Atoms 𝓤) (mem : Mem
   abbrev openingᶜ : Contract 𝓤
   openingᶜ = tripleOf 𝓤 H A opening.signature (opening.spec 𝓤 H A mem run)
 
-  abbrev answerᶜ : Contract 𝓤
-  answerᶜ = tripleOf 𝓤 H A answer.signature (answer.spec 𝓤 H A mem run)
+  abbrev numberedᶜ : Contract 𝓤
+  numberedᶜ = tripleOf 𝓤 H A numbered.signature (numbered.spec 𝓤 H A mem run)
 
   -- what is known of the callees
   abbrev Known : Calls 𝓤 H → Type 1
-  Known C = Triple 𝓤 (C opening-def.name) openingᶜ × Triple 𝓤 (C answer-def.name) answerᶜ
+  Known C = Triple 𝓤 (C opening-def.name) openingᶜ × Triple 𝓤 (C numbered-def.name) numberedᶜ
 
 module _ {M : Type 1} (𝓤 : URA M) (H : Heap 𝓤) (A : Atoms 𝓤) (W : Given 𝓤 H A) (mem : Memory → SProp 𝓤) (run : Routine → Fun 𝓤) (κ0 κ1 κ2 κ3 : Lft) (q0 q1 q2 q3 : Share) (cs-b cs-o : ℕ) (cs-γ : GName) (cs : Counters) (m-b m-o : ℕ) (m-γ : GName) (m : List ℕ) (ys-b ys-o : ℕ) (ys-γ : GName) (ys : List Block) (lies : ℕ) (stops : ℕ) (k : ℕ) (n : ℕ) (me : ℕ) (ld-b ld-o : ℕ) (ld-γ : GName) (ld : List ℕ)
     (m-room : Room u8 (length m)) (ys-room : Room Blockᴿ (length ys)) (lies-is : Is u64 lies ((word .val lies) ∷ [])) (stops-is : Is u64 stops ((word .val stops) ∷ [])) (k-is : Is u64 k ((word .val k) ∷ [])) (n-is : Is u64 n ((word .val n) ∷ [])) (me-is : Is u64 me ((word .val me) ∷ [])) (ld-room : Room u8 (length ld)) where
@@ -76,8 +76,8 @@ module _ {M : Type 1} (𝓤 : URA M) (H : Heap 𝓤) (A : Atoms 𝓤) (W : Given
       -- call 0: `replica::opening`
       move ! (7 ∷ 10 ∷ []) $ lend-mut ! tt u8 m-b m-o m-n m refl (λ ν0-0 δ0-0. move ! (8 ∷ []) $ use1 W (‵ (Shr u8 κ3 ld-b ld-o ld-γ ld-n ld) ⊛ ‵ (Shr u8 κ3 ld-b ld-o ld-γ ld-n ld)) (shr-slice-copy 𝓤 H A W (named 0) κ3 u8 .twice (lying u8 ld-b ld-o ld-γ ld) (ld-s ∷ [])) $ split ! $
       let y0 : openingᶜ 𝓤 H A mem run .Ghost = ((((ν0-0 ∷ []), (κ3, tt)), (fullShare, (q3, tt)), tt, (cs, (lying u8 m-b m-o δ0-0 m, (ys-n, (lies, (stops, (k, (n, (me, (lying u8 ld-b ld-o ld-γ ld, tt))))))))), ((Countersᴰ .val cs) ∷ [], (m-s ∷ [], ((word .val ys-n) ∷ [], ((word .val lies) ∷ [], ((word .val stops) ∷ [], ((word .val k) ∷ [], ((word .val n) ∷ [], ((word .val me) ∷ [], (ld-s ∷ [], tt)))))))))), tt) in move ! (2 ∷ 11 ∷ 3 ∷ 0 ∷ []) $ asks ! opening.ended (opening.clauses 𝓤 H A mem run) y0 4 (of W Countersᴰ cs cs-is (held (of W word ys-n (refl, ys-room .0) (of W word lies lies-is (of W word stops stops-is (of W word k k-is (of W word n n-is (of W word me me-is (held end))))))))) refl (id⊢ 𝓤 _) $ calls-at ! fm (openingᶜ 𝓤 H A mem run) (known .0) y0 (and-then ! (load ! (from ! (stop !)) (look ! 18 refl)) (and-then ! (load ! (from ! (stop !)) (look ! 12 refl)) (and-then ! (load ! (from ! (stop !)) (look ! 10 refl)) (and-then ! (load ! (from ! (stop !)) (look ! 30 refl)) (and-then ! (load ! (from ! (stop !)) (look ! 28 refl)) (and-then ! (load ! (from ! (stop !)) (look ! 26 refl)) (and-then ! (load ! (from ! (stop !)) (look ! 24 refl)) (and-then ! (load ! (from ! (stop !)) (look ! 22 refl)) (and-then ! (load ! (from ! (stop !)) (look ! 20 refl)) (no-more !)))))))))) (λ w0. came ! opening.ended (opening.clauses 𝓤 H A mem run) y0 w0 Openedᴰ 15 refl refl (false ∷ true ∷ false ∷ false ∷ false ∷ false ∷ false ∷ false ∷ false ∷ []) (λ r ws. (l : List Block) → length l ≡ ys-n → openedOutcome r (ws .1 .0) l ≡ openingCall (lentTo cs m l) lies stops k n me ld) (λ r ws. id⊢ 𝓤 _) (λ r0 ws0 is0 e0. move ! (0 ∷ 2 ∷ 4 ∷ []) $ back-again ! tt u8 m-b m-o m-n m (ws0 .1 .0) m-room refl (λ l0-0. assigns ! (of-opd ! (load ! (from ! (fld ! {τ = Countersᵀ} {d = 8} refl (stop !))) (look-in ! 17 {τ = Countersᵀ} (sub ! 1 {τ = Countersᵀ} {d = 8} refl (whole !))))) (from ! (hop ! (look ! 37 refl) (stop !))) (store-raw ! 4 refl (fits W Countersᴰ (r0 .counters) (Opened-counters r0 is0) .0)) $
-      -- call 1: `replica::answer`
-      let y1 : answerᶜ 𝓤 H A mem run .Ghost = ((tt, tt, tt, ((r0 .refusal), (0, tt)), ((word .val (r0 .refusal)) ∷ [], ((word .val 0) ∷ [], tt))), tt) in asks ! answer.ended (answer.clauses 𝓤 H A mem run) y1 0 (of W word (r0 .refusal) (Opened-refusal r0 is0) (of W word 0 (refl, lit< tt) end)) refl (id⊢ 𝓤 _) $ calls-at ! fm (answerᶜ 𝓤 H A mem run) (known .1) y1 (and-then ! (load ! (from ! (fld ! {τ = tyInt w64} {d = 0} refl (stop !))) (look-in ! 18 {τ = tyInt w64} (sub ! 0 {τ = tyInt w64} {d = 0} refl (whole !)))) (and-then ! (lit ! tt) (no-more !))) (λ w1. came ! answer.ended (answer.clauses 𝓤 H A mem run) y1 w1 Replyᴰ 39 refl refl ([]) (λ r ws. r ≡ replyOf (answerOf (r0 .refusal) 0)) (λ r ws. id⊢ 𝓤 _) (λ r1 ws1 is1 e1.
+      -- call 1: `replica::numbered`
+      let y1 : numberedᶜ 𝓤 H A mem run .Ghost = ((tt, tt, tt, ((r0 .refusal), tt), ((word .val (r0 .refusal)) ∷ [], tt)), tt) in asks ! numbered.ended (numbered.clauses 𝓤 H A mem run) y1 0 (of W word (r0 .refusal) (Opened-refusal r0 is0) end) refl (id⊢ 𝓤 _) $ calls-at ! fm (numberedᶜ 𝓤 H A mem run) (known .1) y1 (and-then ! (load ! (from ! (fld ! {τ = tyInt w64} {d = 0} refl (stop !))) (look-in ! 18 {τ = tyInt w64} (sub ! 0 {τ = tyInt w64} {d = 0} refl (whole !)))) (no-more !)) (λ w1. came ! numbered.ended (numbered.clauses 𝓤 H A mem run) y1 w1 Replyᴰ 39 refl refl ([]) (λ r ws. r ≡ replyOf (refuses (r0 .refusal))) (λ r ws. id⊢ 𝓤 _) (λ r1 ws1 is1 e1.
       -- the exit
       move ! (5 ∷ []) $ drop ! $ owned ! Countersᴿ (Is Countersᴿ) (Countersᴰ .makes 𝓤 H A W) (r0 .counters) _ (Opened-counters r0 is0) $ move ! (5 ∷ 0 ∷ 6 ∷ 7 ∷ 8 ∷ []) $ closes ! tt Countersᴿ (r0 .counters) ((Countersᴰ .val (r0 .counters)) ∷ []) cs-b cs-o $ returns ! (look ! 37 refl) $ leave ! 9 (full _ ∷ full _ ∷ full _ ∷ full _ ∷ full _ ∷ full _ ∷ full _ ∷ full _ ∷ full _ ∷ full _ ∷ full _ ∷ full _ ∷ full _ ∷ full _ ∷ full _ ∷ []) refl $ feqI ! (List Val) (vptr cs-b cs-o ∷ []) (vptr cs-b cs-o ∷ []) refl $ fjoin3 ! $ keep ! (1 ∷ 3 ∷ 7 ∷ 4 ∷ 0 ∷ 2 ∷ []) $ ends W f.ended stayed (f.clauses 𝓤 H A mem run) y (Replyᴰ .val r1) r1 ((r0 .counters), ((ws0 .1 .0), (tt, (tt, (tt, (tt, (tt, (tt, (tt, tt))))))))) (tt, (l0-0, (tt, (tt, (tt, (tt, (tt, (tt, (tt, tt))))))))) (Replyᴰ .makes 𝓤 H A W r1 _ is1) (so 𝓤 (opening-is cs m ys lies stops k n me ld r0 _ (e0 ys refl) r1 e1)) (held (held (made (id⊢ 𝓤 _) (made (id⊢ 𝓤 _) (made (id⊢ 𝓤 _) (made (id⊢ 𝓤 _) (made (id⊢ 𝓤 _) (made (id⊢ 𝓤 _) (made (id⊢ 𝓤 _) end))))))))))))))))))))))))))))))))
 
@@ -98,4 +98,4 @@ hydrangea-open-spec 𝓤 H 𝓜 𝓖 𝓡 =
     entered 𝓤 H (tripleOf 𝓤 H (𝓖 .A) f.signature (f.spec 𝓤 H (𝓖 .A) (𝓜 .mem) (𝓡 .run)))
     (tables 𝓤 H 𝓜 𝓡 code.env .C) (tables 𝓤 H 𝓜 𝓡 code.env .Λ) #f code.function (code.unfolded 𝓤 H 𝓜 𝓡)
     (meets 𝓤 H (𝓖 .A) (givenOf 𝓤 H 𝓜 𝓖) (𝓜 .mem) (𝓡 .run) (tablesOf 𝓤 H 𝓜 (tables 𝓤 H 𝓜 𝓡 code.env))
-    (cited 𝓤 H (openingᶜ 𝓤 H (𝓖 .A) (𝓜 .mem) (𝓡 .run)) 𝓜 𝓡 code.env opening-def.name opening-def.routine code.calls-replica·opening (opening-thm.met 𝓤 H 𝓜 𝓖 𝓡), cited 𝓤 H (answerᶜ 𝓤 H (𝓖 .A) (𝓜 .mem) (𝓡 .run)) 𝓜 𝓡 code.env answer-def.name answer-def.routine code.calls-replica·answer (answer-thm.met 𝓤 H 𝓜 𝓖 𝓡)))
+    (cited 𝓤 H (openingᶜ 𝓤 H (𝓖 .A) (𝓜 .mem) (𝓡 .run)) 𝓜 𝓡 code.env opening-def.name opening-def.routine code.calls-replica·opening (opening-thm.met 𝓤 H 𝓜 𝓖 𝓡), cited 𝓤 H (numberedᶜ 𝓤 H (𝓖 .A) (𝓜 .mem) (𝓡 .run)) 𝓜 𝓡 code.env numbered-def.name numbered-def.routine code.calls-replica·numbered (numbered-thm.met 𝓤 H 𝓜 𝓖 𝓡)))

@@ -1,50 +1,48 @@
 -- `replica::hydrangea_propose` meets its contract: a walk of its MIR. tools/walk.py wrote it from hydrangea_propose.py.
 -- Assumes nothing.
-use Rattle.walks.proofs.Walk.{_≡_, refl, ℕ, [], _∷_, List, length, set, URA, fullShare, named, w8, w64, tyInt, tyArray, Val, vptr, SProp, ent, id⊢, emp, via, fst∗, GName, Lft, Share, ftrue, flft, Memory, Routine, Heap, Calls, Loops, WpFn, Tables, Atoms, Fun, givenOf, tables, tablesOf, Given, ‵, _⊛_, _$_, _∵_, !, qed, move, drop, split, fsplit, fsplit3, fjoin3, feqI, given, keep, look, look-raw, init, store-raw, stop, hop, fld, from, load, addr, of-opd, and-then, no-more, assigns}
-use Rattle.walks.proofs.Walk.{returns, enter, alloc1, alloc0, params1, pass1, pass0, store, agg, whole, sub, look-in, FmC, fmOf, WpFn-mono, owns, Is, shows, mem, u8, MutRef, ptr-vals, mut-tells, sliceVal, MutSlice, Room, slice-vals, mut-slice-tells, plain, opens, closes, owned, peeks, spelt, onEntry, Meets, tripleOf, Contract, Triple, calls-at, entered, cited, Stays, stay-ref, stay-dropped, walkOf, AllGo, goes-dropped, goes-ref, Walks, walked, walk-meets, stay-slice, goes-slice, yes, true, false}
-use Rattle.walks.proofs.Data.{fits, word, bytes}
+use Rattle.walks.proofs.Walk.{_≡_, refl, _∙_, ap, ℕ, [], _∷_, List, length, URA, fullShare, named, Val, vptr, SProp, ent, id⊢, emp, via, fst∗, GName, Lft, Share, ftrue, flft, Memory, Routine, Heap, Calls, Loops, WpFn, Tables, Atoms, Fun, givenOf, tables, tablesOf, Given, ‵, _⊛_, _$_, _∵_, !, qed, move, drop, split, fsplit, keep, look, init, stop, hop, fld, from, load, addr, of-opd, and-then, no-more, assigns, returns, enter, alloc1, alloc0, params1, pass1, pass0, agg, whole}
+use Rattle.walks.proofs.Walk.{sub, look-in, FmC, fmOf, WpFn-mono, owns, Is, mem, u8, MutRef, ptr-vals, mut-tells, sliceVal, MutSlice, Room, slice-vals, mut-slice-tells, plain, onEntry, Meets, tripleOf, Contract, Triple, calls-at, entered, cited, Stays, stay-ref, stay-dropped, walkOf, AllGo, goes-dropped, goes-ref, Walks, walked, walk-meets, stay-slice, goes-slice, yes, true, false}
+use Rattle.walks.proofs.Data.{fits, word}
 use Rattle.walks.proofs.Calls.{end, held, made, out, so, of, asks, back-again, came, full, leave, ends}
 use Rattle.walks.proofs.Lent.{lying, lend-mut, lend-shr, back-shr}
+use Rattle.walks.proofs.Local.{pointing, lend-ref, back-ref}
 use mathlib.Core.List.{List}
+use lib.Dec.{eqb}
 use lib.ListN.{length, take, set}
+use Rattle.settings.specs.Answer.{refuses}
 use Rattle.wire.specs.Content.{content}
+use Rattle.wire.specs.Shape.{badLength}
 use Rattle.blocks.specs.declared.Block.{Block}
-use Rattle.protocol.specs.Refusals.{regionRules, timerRules}
+use Rattle.blocks.specs.Store.{held as heldOf}
+use Rattle.blocks.proofs.Ancestry.{is-true, is-false}
+use Rattle.memory.specs.Leaders.{byList}
 use Rattle.protocol.specs.Events.{onRecord, onTimer, onPropose}
 use Rattle.protocol.specs.Rules.{again as turnsOf}
-use Rattle.protocol.specs.Calls.{recordCall, timerCall, proposeCall, _then_}
-use Rattle.refusals.specs.Number.{answerOf, firstOf}
+use Rattle.protocol.specs.Calls.{recordCall, timerCall, proposeCall}
+use Rattle.refusals.specs.Number.{answerOf, firstOf, orElse}
 use Rattle.refusals.specs.Early.{lent}
 use Rattle.judge.specs.Want.{recordWant, proposeWant}
+use Rattle.judge.specs.Late.{lateRules, latePropose}
 use Rattle.act.specs.Draft.{workOf, left, leftBy}
-use Rattle.perform.specs.Perform.{Performs, timerNumber, TimerJudged, proposeNumber, ProposeFound, recordNumber, RecordFound}
+use Rattle.event.specs.Event.{Always, Asked, Proposable}
+use Rattle.perform.specs.Perform.{judgedBy, Judges, Accepted, Lent, Completes, timerNumber, proposeNumber, recordNumber}
 use Rattle.replica.specs.Reply.{replyOf, lentTo, replied, repliedBy}
-use Rattle.replica.proofs.Calling.{concludes, propose-is}
-use Rattle.blocks.specs.Store.{held as heldOf}
+use mathlib.Core.Path.{ap, _∙_}
+use Rattle.counters.specs.declared.Counters.{Counters}
+use Rattle.replica.proofs.Calling.{still-judged}
 use Rattle.counters.specs.declared.Counters.{Counters}
 use Rattle.blocks.specs.declared.Block.{Block}
 use Rattle.replica.specs.declared.Name.{Name}
-use Rattle.counters.proofs.Types.{Countersᴿ, Countersᵀ, Countersᴰ, Counters-tip}
-use Rattle.blocks.proofs.Types.{Blockᴿ, Blockᵀ, Blockᴰ, Foundᴰ}
-use Rattle.replica.proofs.Types.{Nameᴿ, Nameᴰ, Name-bytes, Replyᴰ}
-use Rattle.replica.proofs.Types.{Wantᴰ, Want-count, Want-name, Want-base}
-use Rattle.replica.proofs.Types.{Doneᴰ, Done-refusal}
-use Rattle.replica.proofs.Types.{Draftᴰ, Draft-counters, Draft-at}
-use Rattle.judge.proofs.propose as judge-propose
-use Rattle.judge.proofs.propose.Symbol as judge-propose-def
-use Rattle.judge.proofs.propose.Met as judge-propose-thm
-use Rattle.blocks.proofs.held as held
-use Rattle.blocks.proofs.held.Symbol as held-def
-use Rattle.blocks.proofs.held.Met as held-thm
-use Rattle.perform.proofs.propose as perform-propose
-use Rattle.perform.proofs.propose.Symbol as perform-propose-def
-use Rattle.perform.proofs.propose.Met as perform-propose-thm
-use Rattle.replica.proofs.conclude as conclude
-use Rattle.replica.proofs.conclude.Symbol as conclude-def
-use Rattle.replica.proofs.conclude.Met as conclude-thm
-use Rattle.replica.proofs.answer as answer
-use Rattle.replica.proofs.answer.Symbol as answer-def
-use Rattle.replica.proofs.answer.Met as answer-thm
+use Rattle.counters.proofs.Types.{Countersᴿ}
+use Rattle.blocks.proofs.Types.{Blockᴿ}
+use Rattle.replica.proofs.Types.{Nameᴿ, Nameᴰ, Replyᴰ}
+use Rattle.replica.proofs.Types.{Judgedᴰ}
+use Rattle.replica.proofs.propose_judged as propose-judged
+use Rattle.replica.proofs.propose_judged.Symbol as propose-judged-def
+use Rattle.replica.proofs.propose_judged.Met as propose-judged-thm
+use Rattle.replica.proofs.propose_answered as propose-answered
+use Rattle.replica.proofs.propose_answered.Symbol as propose-answered-def
+use Rattle.replica.proofs.propose_answered.Met as propose-answered-thm
 use Rattle.replica.proofs.hydrangea_propose.Key.{name as #f}
 use Rattle.replica.proofs.hydrangea_propose as f
 use Rattle.replica.proofs.hydrangea_propose.Statement as stated
@@ -54,24 +52,15 @@ abbrev stayed : Stays (f.ended .signature .params) (f.ended .kept)
 stayed = (stay-ref (0 ∷ []) tt (plain (λ _. Countersᴿ)), (stay-slice (1 ∷ []) tt (plain (λ _. u8)), (stay-slice (2 ∷ []) tt (plain (λ _. Blockᴿ)), (stay-slice (3 ∷ []) tt (plain (λ _. u8)), (stay-dropped (plain (λ _. Nameᴿ)) yes, tt)))))
 
 module _ {M : Type 1} (𝓤 : URA M) (H : Heap 𝓤) (A : Atoms 𝓤) (mem : Memory → SProp 𝓤) (run : Routine → Fun 𝓤) where
-  abbrev judge-proposeᶜ : Contract 𝓤
-  judge-proposeᶜ = tripleOf 𝓤 H A judge-propose.signature (judge-propose.spec 𝓤 H A mem run)
+  abbrev propose-judgedᶜ : Contract 𝓤
+  propose-judgedᶜ = tripleOf 𝓤 H A propose-judged.signature (propose-judged.spec 𝓤 H A mem run)
 
-  abbrev heldᶜ : Contract 𝓤
-  heldᶜ = tripleOf 𝓤 H A held.signature (held.spec 𝓤 H A mem run)
-
-  abbrev perform-proposeᶜ : Contract 𝓤
-  perform-proposeᶜ = tripleOf 𝓤 H A perform-propose.signature (perform-propose.spec 𝓤 H A mem run)
-
-  abbrev concludeᶜ : Contract 𝓤
-  concludeᶜ = tripleOf 𝓤 H A conclude.signature (conclude.spec 𝓤 H A mem run)
-
-  abbrev answerᶜ : Contract 𝓤
-  answerᶜ = tripleOf 𝓤 H A answer.signature (answer.spec 𝓤 H A mem run)
+  abbrev propose-answeredᶜ : Contract 𝓤
+  propose-answeredᶜ = tripleOf 𝓤 H A propose-answered.signature (propose-answered.spec 𝓤 H A mem run)
 
   -- what is known of the callees
   abbrev Known : Calls 𝓤 H → Type 1
-  Known C = Triple 𝓤 (C judge-propose-def.name) judge-proposeᶜ × (Triple 𝓤 (C held-def.name) heldᶜ × (Triple 𝓤 (C perform-propose-def.name) perform-proposeᶜ × (Triple 𝓤 (C conclude-def.name) concludeᶜ × Triple 𝓤 (C answer-def.name) answerᶜ)))
+  Known C = Triple 𝓤 (C propose-judged-def.name) propose-judgedᶜ × Triple 𝓤 (C propose-answered-def.name) propose-answeredᶜ
 
 module _ {M : Type 1} (𝓤 : URA M) (H : Heap 𝓤) (A : Atoms 𝓤) (W : Given 𝓤 H A) (mem : Memory → SProp 𝓤) (run : Routine → Fun 𝓤) (κ0 κ1 κ2 κ3 : Lft) (q0 q1 q2 q3 : Share) (cs-b cs-o : ℕ) (cs-γ : GName) (cs : Counters) (m-b m-o : ℕ) (m-γ : GName) (m : List ℕ) (ys-b ys-o : ℕ) (ys-γ : GName) (ys : List Block) (out-b out-o : ℕ) (out-γ : GName) (out : List ℕ) (name : Name)
     (m-room : Room u8 (length m)) (ys-room : Room Blockᴿ (length ys)) (out-room : Room u8 (length out)) (name-is : Is Nameᴿ name ((Nameᴰ .val name) ∷ [])) where
@@ -103,26 +92,15 @@ module _ {M : Type 1} (𝓤 : URA M) (H : Heap 𝓤) (A : Atoms 𝓤) (W : Given
       → ent 𝓤 (onEntry 𝓤 H A f.signature (κ0, (κ1, (κ2, (κ3, tt)))) (q0, (q1, (q2, (q3, tt)))) (y .0 .3) (y .0 .4)) (WpFn 𝓤 H C Λ code.function (vptr cs-b cs-o ∷ m-s ∷ ys-s ∷ out-s ∷ (Nameᴰ .val name) ∷ []) Post)
   walk C Λ fm known =
       qed W ((‵ (flft κ0 q0) ⊛ (‵ (flft κ1 q1) ⊛ (‵ (flft κ2 q2) ⊛ (‵ (flft κ3 q3) ⊛ ‵ ftrue)))) ∷ ‵ (owns (MutRef (named 0) κ0 Countersᴿ ∷ MutSlice (named 1) κ1 u8 ∷ MutSlice (named 2) κ2 Blockᴿ ∷ MutSlice (named 3) κ3 u8 ∷ Nameᴿ ∷ []) (y .0 .3) (y .0 .4)) ∷ []) ∵ enter ! C Λ code.function (vptr cs-b cs-o ∷ m-s ∷ ys-s ∷ out-s ∷ (Nameᴰ .val name) ∷ []) _ $
-      alloc1 ! (λ l₀. alloc1 ! (λ l₁. alloc1 ! (λ l₂. alloc1 ! (λ l₃. alloc1 ! (λ l₄. alloc1 ! (λ l₅. alloc1 ! (λ l₆. alloc1 ! (λ l₇. alloc1 ! (λ l₈. alloc1 ! (λ l₉. alloc1 ! (λ l₁₀. alloc1 ! (λ l₁₁. alloc1 ! (λ l₁₂. alloc1 ! (λ l₁₃. alloc1 ! (λ l₁₄. alloc1 ! (λ l₁₅. alloc1 ! (λ l₁₆. alloc1 ! (λ l₁₇. alloc1 ! (λ l₁₈. alloc1 ! (λ l₁₉. alloc1 ! (λ l₂₀. alloc1 ! (λ l₂₁. alloc1 ! (λ l₂₂. alloc1 ! (λ l₂₃. alloc1 ! (λ l₂₄. alloc1 ! (λ l₂₅. alloc1 ! (λ l₂₆. alloc1 ! (λ l₂₇. alloc1 ! (λ l₂₈. alloc1 ! (λ l₂₉. alloc0 ! $ params1 ! $ pass1 ! (init ! 56 refl (tt, tt)) $ pass1 ! (init ! 54 refl (tt, (tt, (record { fits = m-room .0 }, tt)))) $ pass1 ! (init ! 52 refl (tt, (tt, (record { fits = ys-room .0 }, tt)))) $ pass1 ! (init ! 50 refl (tt, (tt, (record { fits = out-room .0 }, tt)))) $ pass1 ! (init ! 48 refl (fits W Nameᴰ name name-is .0)) $ pass0 ! $ move ! (60 ∷ []) $ split ! $ move ! (1 ∷ []) $ split ! $ move ! (1 ∷ []) $ split ! $ move ! (1 ∷ []) $ split ! $ move ! (1 ∷ []) $ drop ! $ move ! (64 ∷ []) $ fsplit ! $ fsplit3 ! $ drop ! $ move ! (2 ∷ []) $ fsplit ! $ move ! (1 ∷ []) $ fsplit ! $ move ! (1 ∷ []) $ fsplit ! $ move ! (1 ∷ []) $ fsplit ! $ drop ! $ drop ! $ move ! (3 ∷ 4 ∷ 8 ∷ []) $ opens ! tt Countersᴿ {h = cs} cs-b cs-o (λ cs-vs. spelt ! Countersᴿ (Is Countersᴿ) (shows 𝓤 H A Countersᴿ) (λ x. Countersᴰ .val x ∷ []) (Countersᴰ .tells) fullShare cs cs-vs cs-b cs-o $ move ! (1 ∷ []) $ peeks ! Countersᴿ (Is Countersᴿ) (shows 𝓤 H A Countersᴿ) cs ((Countersᴰ .val cs) ∷ []) (λ cs-is. move ! (1 ∷ 0 ∷ []) $ assigns ! (of-opd ! (load ! (from ! (hop ! (look ! 67 refl) (stop !))) (look-raw ! 0 refl))) (from ! (stop !)) (init ! 57 refl (fits W Countersᴰ cs cs-is .0)) $ assigns ! (addr ! (from ! (fld ! refl (hop ! (look-in ! 65 (sub ! 0 refl (whole !))) (stop !))))) (from ! (stop !)) (init ! 45 refl (tt, tt)) $ assigns ! (agg ! (and-then ! (load ! (from ! (stop !)) (look ! 45 refl)) (and-then ! (load ! (from ! (fld ! refl (stop !))) (look-in ! 65 (sub ! 1 refl (whole !)))) (no-more !)))) (from ! (stop !)) (init ! 43 refl (tt, (tt, (record { fits = m-room .0 }, tt)))) $ assigns ! (of-opd ! (load ! (from ! (fld ! refl (stop !))) (look-in ! 63 (sub ! 1 refl (whole !))))) (from ! (stop !)) (init ! 41 refl (fits W word ys-n (refl, ys-room .0) .0)) $ assigns ! (of-opd ! (load ! (from ! (fld ! refl (stop !))) (look-in ! 61 (sub ! 1 refl (whole !))))) (from ! (stop !)) (init ! 39 refl (fits W word out-n (refl, out-room .0) .0)) $
-      -- call 0: `judge::propose`
-      move ! (7 ∷ 10 ∷ []) $ lend-shr ! tt u8 m-b m-o m-n m m-room refl (λ ν0-0 δ0-0.
-      let y0 : judge-proposeᶜ 𝓤 H A mem run .Ghost = ((((ν0-0 ∷ []), tt), (fullShare, tt), tt, (cs, (lying u8 m-b m-o δ0-0 m, (ys-n, (out-n, ((name .bytes), tt))))), ((Countersᴰ .val cs) ∷ [], (m-s ∷ [], ((word .val ys-n) ∷ [], ((word .val out-n) ∷ [], (((bytes 32) .val (name .bytes)) ∷ [], tt)))))), tt) in asks ! judge-propose.ended (judge-propose.clauses 𝓤 H A mem run) y0 2 (of W Countersᴰ cs cs-is (held (of W word ys-n (refl, ys-room .0) (of W word out-n (refl, out-room .0) (of W (bytes 32) (name .bytes) (Name-bytes name name-is) end))))) refl (id⊢ 𝓤 _) $ calls-at ! fm (judge-proposeᶜ 𝓤 H A mem run) (known .0) y0 (and-then ! (load ! (from ! (stop !)) (look ! 57 refl)) (and-then ! (load ! (from ! (stop !)) (look ! 43 refl)) (and-then ! (load ! (from ! (stop !)) (look ! 41 refl)) (and-then ! (load ! (from ! (stop !)) (look ! 39 refl)) (and-then ! (load ! (from ! (fld ! {τ = tyArray (tyInt w8) 32} {d = 0} refl (stop !))) (look-in ! 59 {τ = tyArray (tyInt w8) 32} (sub ! 0 {τ = tyArray (tyInt w8) 32} {d = 0} refl (whole !)))) (no-more !)))))) (λ w0. came ! judge-propose.ended (judge-propose.clauses 𝓤 H A mem run) y0 w0 Wantᴰ 54 refl refl ([]) (λ r ws. (s : List Block) → length s ≡ ys-n → r ≡ proposeWant (lent cs m s) out-n (name .bytes)) (λ r ws. id⊢ 𝓤 _) (λ r0 ws0 is0 e0. back-shr ! tt u8 m-b m-o m-n m m-room refl $ assigns ! (addr ! (from ! (fld ! refl (hop ! (look-in ! 63 (sub ! 0 refl (whole !))) (stop !))))) (from ! (stop !)) (init ! 37 refl (tt, tt)) $ assigns ! (agg ! (and-then ! (load ! (from ! (stop !)) (look ! 37 refl)) (and-then ! (load ! (from ! (fld ! refl (stop !))) (look-in ! 63 (sub ! 1 refl (whole !)))) (no-more !)))) (from ! (stop !)) (init ! 35 refl (tt, (tt, (record { fits = ys-room .0 }, tt)))) $
-      -- call 1: `blocks::held`
-      move ! (8 ∷ 10 ∷ []) $ lend-shr ! tt Blockᴿ ys-b ys-o ys-n ys ys-room refl (λ ν1-0 δ1-0.
-      let y1 : heldᶜ 𝓤 H A mem run .Ghost = ((((ν1-0 ∷ []), tt), (fullShare, tt), tt, (lying Blockᴿ ys-b ys-o δ1-0 ys, ((r0 .count), ((cs .tip), ((r0 .name), tt)))), (ys-s ∷ [], ((word .val (r0 .count)) ∷ [], ((Blockᴰ .val (cs .tip)) ∷ [], (((bytes 32) .val (r0 .name)) ∷ [], tt))))), tt) in asks ! held.ended (held.clauses 𝓤 H A mem run) y1 2 (held (of W word (r0 .count) (Want-count r0 is0) (of W Blockᴰ (cs .tip) (Counters-tip cs cs-is) (of W (bytes 32) (r0 .name) (Want-name r0 is0) end)))) refl (id⊢ 𝓤 _) $ calls-at ! fm (heldᶜ 𝓤 H A mem run) (known .1 .0) y1 (and-then ! (load ! (from ! (stop !)) (look ! 35 refl)) (and-then ! (load ! (from ! (fld ! {τ = tyInt w64} {d = 8} refl (stop !))) (look-in ! 55 {τ = tyInt w64} (sub ! 1 {τ = tyInt w64} {d = 8} refl (whole !)))) (and-then ! (load ! (from ! (fld ! {τ = Blockᵀ} {d = 152} refl (stop !))) (look-in ! 57 {τ = Blockᵀ} (sub ! 5 {τ = Blockᵀ} {d = 152} refl (whole !)))) (and-then ! (load ! (from ! (fld ! {τ = tyArray (tyInt w8) 32} {d = 16} refl (stop !))) (look-in ! 55 {τ = tyArray (tyInt w8) 32} (sub ! 2 {τ = tyArray (tyInt w8) 32} {d = 16} refl (whole !)))) (no-more !))))) (λ w1. came ! held.ended (held.clauses 𝓤 H A mem run) y1 w1 Foundᴰ 52 refl refl ([]) (λ r ws. r ≡ heldOf (cs .tip) (take (r0 .count) ys) (r0 .name)) (λ r ws. id⊢ 𝓤 _) (λ r1 ws1 is1 e1. back-shr ! tt Blockᴿ ys-b ys-o ys-n ys ys-room refl $ assigns ! (addr ! (from ! (fld ! refl (hop ! (look-in ! 63 (sub ! 0 refl (whole !))) (stop !))))) (from ! (stop !)) (init ! 33 refl (tt, tt)) $ assigns ! (agg ! (and-then ! (load ! (from ! (stop !)) (look ! 33 refl)) (and-then ! (load ! (from ! (fld ! refl (stop !))) (look-in ! 63 (sub ! 1 refl (whole !)))) (no-more !)))) (from ! (stop !)) (init ! 31 refl (tt, (tt, (record { fits = ys-room .0 }, tt)))) $
-      -- call 2: `blocks::held`
-      lend-shr ! tt Blockᴿ ys-b ys-o ys-n ys ys-room refl (λ ν2-0 δ2-0.
-      let y2 : heldᶜ 𝓤 H A mem run .Ghost = ((((ν2-0 ∷ []), tt), (fullShare, tt), tt, (lying Blockᴿ ys-b ys-o δ2-0 ys, ((r0 .count), ((cs .tip), ((r0 .base), tt)))), (ys-s ∷ [], ((word .val (r0 .count)) ∷ [], ((Blockᴰ .val (cs .tip)) ∷ [], (((bytes 32) .val (r0 .base)) ∷ [], tt))))), tt) in asks ! held.ended (held.clauses 𝓤 H A mem run) y2 2 (held (of W word (r0 .count) (Want-count r0 is0) (of W Blockᴰ (cs .tip) (Counters-tip cs cs-is) (of W (bytes 32) (r0 .base) (Want-base r0 is0) end)))) refl (id⊢ 𝓤 _) $ calls-at ! fm (heldᶜ 𝓤 H A mem run) (known .1 .0) y2 (and-then ! (load ! (from ! (stop !)) (look ! 31 refl)) (and-then ! (load ! (from ! (fld ! {τ = tyInt w64} {d = 8} refl (stop !))) (look-in ! 55 {τ = tyInt w64} (sub ! 1 {τ = tyInt w64} {d = 8} refl (whole !)))) (and-then ! (load ! (from ! (fld ! {τ = Blockᵀ} {d = 152} refl (stop !))) (look-in ! 57 {τ = Blockᵀ} (sub ! 5 {τ = Blockᵀ} {d = 152} refl (whole !)))) (and-then ! (load ! (from ! (fld ! {τ = tyArray (tyInt w8) 32} {d = 48} refl (stop !))) (look-in ! 55 {τ = tyArray (tyInt w8) 32} (sub ! 3 {τ = tyArray (tyInt w8) 32} {d = 48} refl (whole !)))) (no-more !))))) (λ w2. came ! held.ended (held.clauses 𝓤 H A mem run) y2 w2 Foundᴰ 50 refl refl ([]) (λ r ws. r ≡ heldOf (cs .tip) (take (r0 .count) ys) (r0 .base)) (λ r ws. id⊢ 𝓤 _) (λ r2 ws2 is2 e2. back-shr ! tt Blockᴿ ys-b ys-o ys-n ys ys-room refl $ assigns ! (addr ! (from ! (fld ! refl (hop ! (look-in ! 65 (sub ! 0 refl (whole !))) (stop !))))) (from ! (stop !)) (init ! 29 refl (tt, tt)) $ assigns ! (agg ! (and-then ! (load ! (from ! (stop !)) (look ! 29 refl)) (and-then ! (load ! (from ! (fld ! refl (stop !))) (look-in ! 65 (sub ! 1 refl (whole !)))) (no-more !)))) (from ! (stop !)) (init ! 27 refl (tt, (tt, (record { fits = m-room .0 }, tt)))) $ assigns ! (addr ! (from ! (fld ! refl (hop ! (look-in ! 61 (sub ! 0 refl (whole !))) (stop !))))) (from ! (stop !)) (init ! 25 refl (tt, tt)) $ assigns ! (agg ! (and-then ! (load ! (from ! (stop !)) (look ! 25 refl)) (and-then ! (load ! (from ! (fld ! refl (stop !))) (look-in ! 61 (sub ! 1 refl (whole !)))) (no-more !)))) (from ! (stop !)) (init ! 23 refl (tt, (tt, (record { fits = out-room .0 }, tt)))) $
-      -- call 3: `perform::propose`
-      move ! (2 ∷ 3 ∷ []) $ lend-mut ! tt u8 m-b m-o m-n m refl (λ ν3-0 δ3-0. move ! (10 ∷ 11 ∷ []) $ lend-mut ! tt u8 out-b out-o out-n out refl (λ ν3-1 δ3-1.
-      let y3 : perform-proposeᶜ 𝓤 H A mem run .Ghost = ((((ν3-0 ∷ []), ((ν3-1 ∷ []), tt)), (fullShare, (fullShare, tt)), tt, (cs, (lying u8 m-b m-o δ3-0 m, (lying u8 out-b out-o δ3-1 out, ((name .bytes), (r0, (r1, (r2, tt))))))), ((Countersᴰ .val cs) ∷ [], (m-s ∷ [], (out-s ∷ [], (((bytes 32) .val (name .bytes)) ∷ [], ((Wantᴰ .val r0) ∷ [], ((Foundᴰ .val r1) ∷ [], ((Foundᴰ .val r2) ∷ [], tt)))))))), tt) in move ! (3 ∷ 0 ∷ 4 ∷ 1 ∷ []) $ asks ! perform-propose.ended (perform-propose.clauses 𝓤 H A mem run) y3 4 (of W Countersᴰ cs cs-is (held (held (of W (bytes 32) (name .bytes) (Name-bytes name name-is) (of W Wantᴰ r0 is0 (of W Foundᴰ r1 is1 (of W Foundᴰ r2 is2 end))))))) refl (so 𝓤 (record { store = ys; given = record { want = e0 ys refl; found = e1; under = e2 } })) $ calls-at ! fm (perform-proposeᶜ 𝓤 H A mem run) (known .1 .1 .0) y3 (and-then ! (load ! (from ! (stop !)) (look ! 56 refl)) (and-then ! (load ! (from ! (stop !)) (look ! 26 refl)) (and-then ! (load ! (from ! (stop !)) (look ! 22 refl)) (and-then ! (load ! (from ! (fld ! {τ = tyArray (tyInt w8) 32} {d = 0} refl (stop !))) (look-in ! 58 {τ = tyArray (tyInt w8) 32} (sub ! 0 {τ = tyArray (tyInt w8) 32} {d = 0} refl (whole !)))) (and-then ! (load ! (from ! (stop !)) (look ! 54 refl)) (and-then ! (load ! (from ! (stop !)) (look ! 52 refl)) (and-then ! (load ! (from ! (stop !)) (look ! 50 refl)) (no-more !)))))))) (λ w3. came ! perform-propose.ended (perform-propose.clauses 𝓤 H A mem run) y3 w3 Doneᴰ 47 refl refl (false ∷ true ∷ true ∷ false ∷ false ∷ false ∷ false ∷ []) (λ r ws. Performs (proposeNumber (length out) (name .bytes)) (onPropose (name .bytes)) (ProposeFound (length out) (name .bytes) r0 r1 r2) cs m out r (ws .1 .0) (ws .1 .1 .0)) (λ r ws. id⊢ 𝓤 _) (λ r3 ws3 is3 e3. move ! (0 ∷ 2 ∷ 5 ∷ []) $ back-again ! tt u8 m-b m-o m-n m (ws3 .1 .0) m-room refl (λ l3-0. move ! (2 ∷ 3 ∷ 4 ∷ []) $ back-again ! tt u8 out-b out-o out-n out (ws3 .1 .1 .0) out-room refl (λ l3-1. assigns ! (addr ! (from ! (fld ! refl (hop ! (look-in ! 65 (sub ! 0 refl (whole !))) (stop !))))) (from ! (stop !)) (init ! 21 refl (tt, tt)) $ assigns ! (agg ! (and-then ! (load ! (from ! (stop !)) (look ! 21 refl)) (and-then ! (load ! (from ! (fld ! refl (stop !))) (look-in ! 65 (sub ! 1 refl (whole !)))) (no-more !)))) (from ! (stop !)) (init ! 19 refl (tt, (tt, (record { fits = m-room .0 }, tt)))) $ assigns ! (addr ! (from ! (fld ! refl (hop ! (look-in ! 63 (sub ! 0 refl (whole !))) (stop !))))) (from ! (stop !)) (init ! 17 refl (tt, tt)) $ assigns ! (agg ! (and-then ! (load ! (from ! (stop !)) (look ! 17 refl)) (and-then ! (load ! (from ! (fld ! refl (stop !))) (look-in ! 63 (sub ! 1 refl (whole !)))) (no-more !)))) (from ! (stop !)) (init ! 15 refl (tt, (tt, (record { fits = ys-room .0 }, tt)))) $ assigns ! (addr ! (from ! (fld ! refl (hop ! (look-in ! 61 (sub ! 0 refl (whole !))) (stop !))))) (from ! (stop !)) (init ! 13 refl (tt, tt)) $ assigns ! (agg ! (and-then ! (load ! (from ! (stop !)) (look ! 13 refl)) (and-then ! (load ! (from ! (fld ! refl (stop !))) (look-in ! 61 (sub ! 1 refl (whole !)))) (no-more !)))) (from ! (stop !)) (init ! 11 refl (tt, (tt, (record { fits = out-room .0 }, tt)))) $
-      -- call 4: `replica::conclude`
-      move ! (2 ∷ 3 ∷ []) $ lend-mut ! tt u8 m-b m-o m-n (ws3 .1 .0) l3-0 (λ ν4-0 δ4-0. move ! (5 ∷ 6 ∷ []) $ lend-mut ! tt Blockᴿ ys-b ys-o ys-n ys refl (λ ν4-1 δ4-1. move ! (6 ∷ 7 ∷ []) $ lend-mut ! tt u8 out-b out-o out-n (ws3 .1 .1 .0) l3-1 (λ ν4-2 δ4-2.
-      let y4 : concludeᶜ 𝓤 H A mem run .Ghost = ((((ν4-0 ∷ []), ((ν4-1 ∷ []), ((ν4-2 ∷ []), tt))), (fullShare, (fullShare, (fullShare, tt))), tt, (lying u8 m-b m-o δ4-0 (ws3 .1 .0), (lying Blockᴿ ys-b ys-o δ4-1 ys, (lying u8 out-b out-o δ4-2 (ws3 .1 .1 .0), (r3, tt)))), (m-s ∷ [], (ys-s ∷ [], (out-s ∷ [], ((Doneᴰ .val r3) ∷ [], tt))))), tt) in move ! (6 ∷ 3 ∷ 0 ∷ 7 ∷ 4 ∷ 1 ∷ []) $ asks ! conclude.ended (conclude.clauses 𝓤 H A mem run) y4 6 (held (held (held (of W Doneᴰ r3 is3 end)))) refl (so 𝓤 (concludes ys e3)) $ calls-at ! fm (concludeᶜ 𝓤 H A mem run) (known .1 .1 .1 .0) y4 (and-then ! (load ! (from ! (stop !)) (look ! 17 refl)) (and-then ! (load ! (from ! (stop !)) (look ! 13 refl)) (and-then ! (load ! (from ! (stop !)) (look ! 9 refl)) (and-then ! (load ! (from ! (stop !)) (look ! 47 refl)) (no-more !))))) (λ w4. came ! conclude.ended (conclude.clauses 𝓤 H A mem run) y4 w4 Draftᴰ 44 refl refl (true ∷ true ∷ true ∷ false ∷ []) (λ r ws. left r (ws .0) (ws .1 .1 .0) (ws .1 .0) ≡ leftBy (turnsOf (r3 .turns) (workOf (r3 .draft) (ws3 .1 .0) (ws3 .1 .1 .0) (set ys (r3 .place) (r3 .block)))) (ws3 .1 .1 .0)) (λ r ws. id⊢ 𝓤 _) (λ r4 ws4 is4 e4. move ! (0 ∷ 3 ∷ 8 ∷ []) $ back-again ! tt u8 m-b m-o m-n (ws3 .1 .0) (ws4 .0) m-room l3-0 (λ l4-0. move ! (2 ∷ 4 ∷ 7 ∷ []) $ back-again ! tt Blockᴿ ys-b ys-o ys-n ys (ws4 .1 .0) ys-room refl (λ l4-1. move ! (4 ∷ 5 ∷ 6 ∷ []) $ back-again ! tt u8 out-b out-o out-n (ws3 .1 .1 .0) (ws4 .1 .1 .0) out-room l3-1 (λ l4-2. assigns ! (of-opd ! (load ! (from ! (fld ! {τ = Countersᵀ} {d = 0} refl (stop !))) (look-in ! 47 {τ = Countersᵀ} (sub ! 0 {τ = Countersᵀ} {d = 0} refl (whole !))))) (from ! (hop ! (look ! 67 refl) (stop !))) (store-raw ! 6 refl (fits W Countersᴰ (r4 .counters) (Draft-counters r4 is4) .0)) $
-      -- call 5: `replica::answer`
-      let y5 : answerᶜ 𝓤 H A mem run .Ghost = ((tt, tt, tt, ((r3 .refusal), ((r4 .at), tt)), ((word .val (r3 .refusal)) ∷ [], ((word .val (r4 .at)) ∷ [], tt))), tt) in asks ! answer.ended (answer.clauses 𝓤 H A mem run) y5 0 (of W word (r3 .refusal) (Done-refusal r3 is3) (of W word (r4 .at) (Draft-at r4 is4) end)) refl (id⊢ 𝓤 _) $ calls-at ! fm (answerᶜ 𝓤 H A mem run) (known .1 .1 .1 .1) y5 (and-then ! (load ! (from ! (fld ! {τ = tyInt w64} {d = 0} refl (stop !))) (look-in ! 50 {τ = tyInt w64} (sub ! 0 {τ = tyInt w64} {d = 0} refl (whole !)))) (and-then ! (load ! (from ! (fld ! {τ = tyInt w64} {d = 224} refl (stop !))) (look-in ! 48 {τ = tyInt w64} (sub ! 1 {τ = tyInt w64} {d = 224} refl (whole !)))) (no-more !))) (λ w5. came ! answer.ended (answer.clauses 𝓤 H A mem run) y5 w5 Replyᴰ 69 refl refl ([]) (λ r ws. r ≡ replyOf (answerOf (r3 .refusal) (r4 .at))) (λ r ws. id⊢ 𝓤 _) (λ r5 ws5 is5 e5.
+      alloc1 ! (λ l₀. alloc1 ! (λ l₁. alloc1 ! (λ l₂. alloc1 ! (λ l₃. alloc1 ! (λ l₄. alloc1 ! (λ l₅. alloc1 ! (λ l₆. alloc1 ! (λ l₇. alloc1 ! (λ l₈. alloc1 ! (λ l₉. alloc1 ! (λ l₁₀. alloc1 ! (λ l₁₁. alloc1 ! (λ l₁₂. alloc1 ! (λ l₁₃. alloc1 ! (λ l₁₄. alloc1 ! (λ l₁₅. alloc1 ! (λ l₁₆. alloc1 ! (λ l₁₇. alloc1 ! (λ l₁₈. alloc1 ! (λ l₁₉. alloc0 ! $ params1 ! $ pass1 ! (init ! 36 refl (tt, tt)) $ pass1 ! (init ! 34 refl (tt, (tt, (record { fits = m-room .0 }, tt)))) $ pass1 ! (init ! 32 refl (tt, (tt, (record { fits = ys-room .0 }, tt)))) $ pass1 ! (init ! 30 refl (tt, (tt, (record { fits = out-room .0 }, tt)))) $ pass1 ! (init ! 28 refl (fits W Nameᴰ name name-is .0)) $ pass0 ! $ move ! (40 ∷ []) $ split ! $ move ! (1 ∷ []) $ split ! $ move ! (1 ∷ []) $ split ! $ move ! (1 ∷ []) $ split ! $ move ! (1 ∷ []) $ drop ! $ move ! (44 ∷ []) $ fsplit ! $ move ! (1 ∷ []) $ fsplit ! $ move ! (1 ∷ []) $ fsplit ! $ move ! (1 ∷ []) $ fsplit ! $ move ! (1 ∷ []) $ fsplit ! $ drop ! $ drop ! $ assigns ! (addr ! (from ! (hop ! (look ! 44 refl) (stop !)))) (from ! (stop !)) (init ! 32 refl (tt, tt)) $ assigns ! (addr ! (from ! (fld ! refl (hop ! (look-in ! 42 (sub ! 0 refl (whole !))) (stop !))))) (from ! (stop !)) (init ! 30 refl (tt, tt)) $ assigns ! (agg ! (and-then ! (load ! (from ! (stop !)) (look ! 30 refl)) (and-then ! (load ! (from ! (fld ! refl (stop !))) (look-in ! 42 (sub ! 1 refl (whole !)))) (no-more !)))) (from ! (stop !)) (init ! 28 refl (tt, (tt, (record { fits = m-room .0 }, tt)))) $ assigns ! (addr ! (from ! (fld ! refl (hop ! (look-in ! 40 (sub ! 0 refl (whole !))) (stop !))))) (from ! (stop !)) (init ! 26 refl (tt, tt)) $ assigns ! (agg ! (and-then ! (load ! (from ! (stop !)) (look ! 26 refl)) (and-then ! (load ! (from ! (fld ! refl (stop !))) (look-in ! 40 (sub ! 1 refl (whole !)))) (no-more !)))) (from ! (stop !)) (init ! 24 refl (tt, (tt, (record { fits = ys-room .0 }, tt)))) $ assigns ! (of-opd ! (load ! (from ! (fld ! refl (stop !))) (look-in ! 38 (sub ! 1 refl (whole !))))) (from ! (stop !)) (init ! 22 refl (fits W word out-n (refl, out-room .0) .0)) $
+      -- call 0: `replica::propose_judged`
+      move ! (3 ∷ 7 ∷ []) $ lend-ref ! tt Countersᴿ cs-b cs-o cs (λ ν0-0 δ0-0. move ! (5 ∷ 8 ∷ []) $ lend-shr ! tt u8 m-b m-o m-n m m-room refl (λ ν0-1 δ0-1. move ! (7 ∷ 9 ∷ []) $ lend-shr ! tt Blockᴿ ys-b ys-o ys-n ys ys-room refl (λ ν0-2 δ0-2.
+      let y0 : propose-judgedᶜ 𝓤 H A mem run .Ghost = ((((ν0-0 ∷ []), ((ν0-1 ∷ []), ((ν0-2 ∷ []), tt))), (fullShare, (fullShare, (fullShare, tt))), tt, (pointing Countersᴿ cs-b cs-o δ0-0 cs, (lying u8 m-b m-o δ0-1 m, (lying Blockᴿ ys-b ys-o δ0-2 ys, (out-n, (name, tt))))), (vptr cs-b cs-o ∷ [], (m-s ∷ [], (ys-s ∷ [], ((word .val out-n) ∷ [], ((Nameᴰ .val name) ∷ [], tt)))))), tt) in move ! (6 ∷ 3 ∷ 0 ∷ 7 ∷ 4 ∷ 1 ∷ []) $ asks ! propose-judged.ended (propose-judged.clauses 𝓤 H A mem run) y0 6 (held (held (held (of W word out-n (refl, out-room .0) (of W Nameᴰ name name-is end))))) refl (id⊢ 𝓤 _) $ calls-at ! fm (propose-judgedᶜ 𝓤 H A mem run) (known .0) y0 (and-then ! (load ! (from ! (stop !)) (look ! 30 refl)) (and-then ! (load ! (from ! (stop !)) (look ! 26 refl)) (and-then ! (load ! (from ! (stop !)) (look ! 22 refl)) (and-then ! (load ! (from ! (stop !)) (look ! 20 refl)) (and-then ! (load ! (from ! (stop !)) (look ! 34 refl)) (no-more !)))))) (λ w0. came ! propose-judged.ended (propose-judged.clauses 𝓤 H A mem run) y0 w0 Judgedᴰ 31 refl refl (true ∷ false ∷ false ∷ false ∷ false ∷ []) (λ r ws. ((ws .0) ≡ cs) × Judges (proposeNumber out-n (name .bytes)) (Proposable (name .bytes) (r .below .0)) (r .accepted) (r .refusal) (lent cs m ys)) (λ r ws. id⊢ 𝓤 _) (λ r0 ws0 is0 e0. move ! (0 ∷ 3 ∷ 6 ∷ []) $ back-ref ! tt Countersᴿ cs-b cs-o cs (ws0 .0) $ move ! (2 ∷ 5 ∷ []) $ back-shr ! tt u8 m-b m-o m-n m m-room refl $ move ! (4 ∷ 5 ∷ []) $ back-shr ! tt Blockᴿ ys-b ys-o ys-n ys ys-room refl $ assigns ! (addr ! (from ! (hop ! (look ! 44 refl) (stop !)))) (from ! (stop !)) (init ! 20 refl (tt, tt)) $ assigns ! (addr ! (from ! (fld ! refl (hop ! (look-in ! 42 (sub ! 0 refl (whole !))) (stop !))))) (from ! (stop !)) (init ! 18 refl (tt, tt)) $ assigns ! (agg ! (and-then ! (load ! (from ! (stop !)) (look ! 18 refl)) (and-then ! (load ! (from ! (fld ! refl (stop !))) (look-in ! 42 (sub ! 1 refl (whole !)))) (no-more !)))) (from ! (stop !)) (init ! 16 refl (tt, (tt, (record { fits = m-room .0 }, tt)))) $ assigns ! (addr ! (from ! (fld ! refl (hop ! (look-in ! 40 (sub ! 0 refl (whole !))) (stop !))))) (from ! (stop !)) (init ! 14 refl (tt, tt)) $ assigns ! (agg ! (and-then ! (load ! (from ! (stop !)) (look ! 14 refl)) (and-then ! (load ! (from ! (fld ! refl (stop !))) (look-in ! 40 (sub ! 1 refl (whole !)))) (no-more !)))) (from ! (stop !)) (init ! 12 refl (tt, (tt, (record { fits = ys-room .0 }, tt)))) $ assigns ! (addr ! (from ! (fld ! refl (hop ! (look-in ! 38 (sub ! 0 refl (whole !))) (stop !))))) (from ! (stop !)) (init ! 10 refl (tt, tt)) $ assigns ! (agg ! (and-then ! (load ! (from ! (stop !)) (look ! 10 refl)) (and-then ! (load ! (from ! (fld ! refl (stop !))) (look-in ! 38 (sub ! 1 refl (whole !)))) (no-more !)))) (from ! (stop !)) (init ! 8 refl (tt, (tt, (record { fits = out-room .0 }, tt)))) $
+      -- call 1: `replica::propose_answered`
+      move ! (4 ∷ 5 ∷ []) $ lend-ref ! tt Countersᴿ cs-b cs-o (ws0 .0) (λ ν1-0 δ1-0. move ! (5 ∷ 6 ∷ []) $ lend-mut ! tt u8 m-b m-o m-n m refl (λ ν1-1 δ1-1. move ! (6 ∷ 7 ∷ []) $ lend-mut ! tt Blockᴿ ys-b ys-o ys-n ys refl (λ ν1-2 δ1-2. move ! (9 ∷ 10 ∷ []) $ lend-mut ! tt u8 out-b out-o out-n out refl (λ ν1-3 δ1-3.
+      let y1 : propose-answeredᶜ 𝓤 H A mem run .Ghost = ((((ν1-0 ∷ []), ((ν1-1 ∷ []), ((ν1-2 ∷ []), ((ν1-3 ∷ []), tt)))), (fullShare, (fullShare, (fullShare, (fullShare, tt)))), tt, (pointing Countersᴿ cs-b cs-o δ1-0 (ws0 .0), (lying u8 m-b m-o δ1-1 m, (lying Blockᴿ ys-b ys-o δ1-2 ys, (lying u8 out-b out-o δ1-3 out, (name, (r0, tt)))))), (vptr cs-b cs-o ∷ [], (m-s ∷ [], (ys-s ∷ [], (out-s ∷ [], ((Nameᴰ .val name) ∷ [], ((Judgedᴰ .val r0) ∷ [], tt))))))), tt) in move ! (9 ∷ 6 ∷ 3 ∷ 0 ∷ 10 ∷ 7 ∷ 4 ∷ 1 ∷ []) $ asks ! propose-answered.ended (propose-answered.clauses 𝓤 H A mem run) y1 8 (held (held (held (held (of W Nameᴰ name name-is (of W Judgedᴰ r0 is0 end)))))) refl (so 𝓤 (still-judged (e0 .0) m ys (e0 .1))) $ calls-at ! fm (propose-answeredᶜ 𝓤 H A mem run) (known .1) y1 (and-then ! (load ! (from ! (stop !)) (look ! 17 refl)) (and-then ! (load ! (from ! (stop !)) (look ! 13 refl)) (and-then ! (load ! (from ! (stop !)) (look ! 9 refl)) (and-then ! (load ! (from ! (stop !)) (look ! 5 refl)) (and-then ! (load ! (from ! (stop !)) (look ! 33 refl)) (and-then ! (load ! (from ! (stop !)) (look ! 31 refl)) (no-more !))))))) (λ w1. came ! propose-answered.ended (propose-answered.clauses 𝓤 H A mem run) y1 w1 Replyᴰ 42 refl refl (true ∷ true ∷ true ∷ true ∷ false ∷ false ∷ []) (λ r ws. replied r (ws .0) (ws .1 .0) (ws .1 .1 .0) (ws .1 .1 .1 .0) ≡ repliedBy (proposeCall byList (lentTo (ws0 .0) m ys) out (name .bytes))) (λ r ws. id⊢ 𝓤 _) (λ r1 ws1 is1 e1. move ! (0 ∷ 4 ∷ 11 ∷ []) $ back-ref ! tt Countersᴿ cs-b cs-o (ws0 .0) (ws1 .0) $ move ! (2 ∷ 5 ∷ 10 ∷ []) $ back-again ! tt u8 m-b m-o m-n m (ws1 .1 .0) m-room refl (λ l1-1. move ! (4 ∷ 6 ∷ 9 ∷ []) $ back-again ! tt Blockᴿ ys-b ys-o ys-n ys (ws1 .1 .1 .0) ys-room refl (λ l1-2. move ! (6 ∷ 7 ∷ 8 ∷ []) $ back-again ! tt u8 out-b out-o out-n out (ws1 .1 .1 .1 .0) out-room refl (λ l1-3.
       -- the exit
-      move ! (7 ∷ []) $ drop ! $ owned ! Countersᴿ (Is Countersᴿ) (Countersᴰ .makes 𝓤 H A W) (r4 .counters) _ (Draft-counters r4 is4) $ move ! (7 ∷ 0 ∷ 8 ∷ 9 ∷ 10 ∷ []) $ closes ! tt Countersᴿ (r4 .counters) ((Countersᴰ .val (r4 .counters)) ∷ []) cs-b cs-o $ returns ! (look ! 67 refl) $ leave ! 9 (full _ ∷ full _ ∷ full _ ∷ full _ ∷ full _ ∷ full _ ∷ full _ ∷ full _ ∷ full _ ∷ full _ ∷ full _ ∷ full _ ∷ full _ ∷ full _ ∷ full _ ∷ full _ ∷ full _ ∷ full _ ∷ full _ ∷ full _ ∷ full _ ∷ full _ ∷ full _ ∷ full _ ∷ full _ ∷ full _ ∷ full _ ∷ full _ ∷ full _ ∷ full _ ∷ []) refl $ feqI ! (List Val) (vptr cs-b cs-o ∷ []) (vptr cs-b cs-o ∷ []) refl $ fjoin3 ! $ keep ! (1 ∷ 7 ∷ 5 ∷ 3 ∷ 0 ∷ 6 ∷ 4 ∷ 2 ∷ []) $ ends W f.ended stayed (f.clauses 𝓤 H A mem run) y (Replyᴰ .val r5) r5 ((r4 .counters), ((ws4 .0), ((ws4 .1 .0), ((ws4 .1 .1 .0), (tt, tt))))) (tt, (l4-0, (l4-1, (l4-2, (tt, tt))))) (Replyᴰ .makes 𝓤 H A W r5 _ is5) (so 𝓤 (propose-is cs m out ys (ys-room .0) r3 _ _ r4 _ _ _ e4 r5 e5 (name .bytes) r0 r1 r2 (record { want = e0 ys refl; found = e1; under = e2 }) e3)) (held (held (held (held (made (id⊢ 𝓤 _) end))))))))))))))))))))))))))))))))))))))))))))))))))))))))))))))
+      returns ! (look ! 46 refl) $ leave ! 8 (full _ ∷ full _ ∷ full _ ∷ full _ ∷ full _ ∷ full _ ∷ full _ ∷ full _ ∷ full _ ∷ full _ ∷ full _ ∷ full _ ∷ full _ ∷ full _ ∷ full _ ∷ full _ ∷ full _ ∷ full _ ∷ full _ ∷ full _ ∷ []) refl $ keep ! (7 ∷ 5 ∷ 3 ∷ 1 ∷ 6 ∷ 4 ∷ 2 ∷ 0 ∷ []) $ ends W f.ended stayed (f.clauses 𝓤 H A mem run) y (Replyᴰ .val r1) r1 ((ws1 .0), ((ws1 .1 .0), ((ws1 .1 .1 .0), ((ws1 .1 .1 .1 .0), (tt, tt))))) (tt, (l1-1, (l1-2, (l1-3, (tt, tt))))) (Replyᴰ .makes 𝓤 H A W r1 _ is1) (so 𝓤 (e1 ∙ ap (λ (c : Counters). repliedBy (proposeCall byList (lentTo c m ys) out (name .bytes))) (e0 .0))) (held (held (held (held (made (id⊢ 𝓤 _) end)))))))))))))))))))))))))))))))))))))))
 
 module _ {M : Type 1} (𝓤 : URA M) (H : Heap 𝓤) (A : Atoms 𝓤) (W : Given 𝓤 H A) (mem : Memory → SProp 𝓤) (run : Routine → Fun 𝓤) where
   goes : AllGo 𝓤 H A W 4 (f.signature .params) (f.ended .kept) stayed
@@ -141,4 +119,4 @@ hydrangea-propose-spec 𝓤 H 𝓜 𝓖 𝓡 =
     entered 𝓤 H (tripleOf 𝓤 H (𝓖 .A) f.signature (f.spec 𝓤 H (𝓖 .A) (𝓜 .mem) (𝓡 .run)))
     (tables 𝓤 H 𝓜 𝓡 code.env .C) (tables 𝓤 H 𝓜 𝓡 code.env .Λ) #f code.function (code.unfolded 𝓤 H 𝓜 𝓡)
     (meets 𝓤 H (𝓖 .A) (givenOf 𝓤 H 𝓜 𝓖) (𝓜 .mem) (𝓡 .run) (tablesOf 𝓤 H 𝓜 (tables 𝓤 H 𝓜 𝓡 code.env))
-    (cited 𝓤 H (judge-proposeᶜ 𝓤 H (𝓖 .A) (𝓜 .mem) (𝓡 .run)) 𝓜 𝓡 code.env judge-propose-def.name judge-propose-def.routine code.calls-judge·propose (judge-propose-thm.met 𝓤 H 𝓜 𝓖 𝓡), (cited 𝓤 H (heldᶜ 𝓤 H (𝓖 .A) (𝓜 .mem) (𝓡 .run)) 𝓜 𝓡 code.env held-def.name held-def.routine code.calls-blocks·held (held-thm.met 𝓤 H 𝓜 𝓖 𝓡), (cited 𝓤 H (perform-proposeᶜ 𝓤 H (𝓖 .A) (𝓜 .mem) (𝓡 .run)) 𝓜 𝓡 code.env perform-propose-def.name perform-propose-def.routine code.calls-perform·propose (perform-propose-thm.met 𝓤 H 𝓜 𝓖 𝓡), (cited 𝓤 H (concludeᶜ 𝓤 H (𝓖 .A) (𝓜 .mem) (𝓡 .run)) 𝓜 𝓡 code.env conclude-def.name conclude-def.routine code.calls-replica·conclude (conclude-thm.met 𝓤 H 𝓜 𝓖 𝓡), cited 𝓤 H (answerᶜ 𝓤 H (𝓖 .A) (𝓜 .mem) (𝓡 .run)) 𝓜 𝓡 code.env answer-def.name answer-def.routine code.calls-replica·answer (answer-thm.met 𝓤 H 𝓜 𝓖 𝓡))))))
+    (cited 𝓤 H (propose-judgedᶜ 𝓤 H (𝓖 .A) (𝓜 .mem) (𝓡 .run)) 𝓜 𝓡 code.env propose-judged-def.name propose-judged-def.routine code.calls-replica·propose-judged (propose-judged-thm.met 𝓤 H 𝓜 𝓖 𝓡), cited 𝓤 H (propose-answeredᶜ 𝓤 H (𝓖 .A) (𝓜 .mem) (𝓡 .run)) 𝓜 𝓡 code.env propose-answered-def.name propose-answered-def.routine code.calls-replica·propose-answered (propose-answered-thm.met 𝓤 H 𝓜 𝓖 𝓡)))

@@ -1,49 +1,47 @@
 -- `replica::hydrangea_record` meets its contract: a walk of its MIR. tools/walk.py wrote it from hydrangea_record.py.
 -- Assumes nothing.
-use Rattle.walks.proofs.Walk.{_≡_, refl, ℕ, [], _∷_, List, length, set, URA, fullShare, named, w8, w64, tyInt, tyArray, Val, vptr, SProp, ent, id⊢, emp, via, fst∗, GName, Lft, Share, ftrue, flft, Memory, Routine, Heap, Calls, Loops, WpFn, Tables, Atoms, Fun, givenOf, tables, tablesOf, Given, ‵, _⊛_, _$_, _∵_, !, qed, move, drop, use1, split, fsplit, fsplit3, fjoin3, feqI, given, keep, look, look-raw, init, store-raw, stop, hop, fld, from, load, addr, of-opd, and-then, no-more}
-use Rattle.walks.proofs.Walk.{assigns, returns, enter, alloc1, alloc0, params1, pass1, pass0, store, agg, whole, sub, look-in, FmC, fmOf, WpFn-mono, owns, Is, shows, mem, u8, MutRef, ptr-vals, mut-tells, sliceVal, MutSlice, Room, slice-vals, mut-slice-tells, ShrSlice, shr-slice-tells, shr-slice-copy, plain, shrSliceOf, opens, closes, owned, peeks, spelt, onEntry, Meets, tripleOf, Contract, Triple, calls-at, entered, cited, Stays, stay-ref, stay-dropped, walkOf, AllGo, goes-dropped, goes-ref, Walks, walked, walk-meets, stay-slice, goes-slice, yes, true, false}
-use Rattle.walks.proofs.Data.{fits, word, bytes}
+use Rattle.walks.proofs.Walk.{_≡_, refl, _∙_, ap, ℕ, [], _∷_, List, length, URA, fullShare, named, Val, vptr, SProp, ent, id⊢, emp, via, fst∗, GName, Lft, Share, ftrue, flft, Memory, Routine, Heap, Calls, Loops, WpFn, Tables, Atoms, Fun, givenOf, tables, tablesOf, Given, ‵, _⊛_, _$_, _∵_, !, qed, move, drop, use1, split, fsplit, keep, look, init, stop, hop, fld, from, load, addr, of-opd, and-then, no-more, assigns, returns, enter, alloc1, alloc0, params1, pass1, pass0, agg}
+use Rattle.walks.proofs.Walk.{whole, sub, look-in, FmC, fmOf, WpFn-mono, owns, mem, u8, MutRef, ptr-vals, mut-tells, sliceVal, MutSlice, Room, slice-vals, mut-slice-tells, ShrSlice, shr-slice-tells, shr-slice-copy, plain, shrSliceOf, onEntry, Meets, tripleOf, Contract, Triple, calls-at, entered, cited, Stays, stay-ref, stay-dropped, walkOf, AllGo, goes-dropped, goes-ref, Walks, walked, walk-meets, stay-slice, goes-slice, yes, true, false}
+use Rattle.walks.proofs.Data.{fits, word}
 use Rattle.walks.proofs.Calls.{end, held, made, out, so, of, asks, back-again, came, full, leave, ends}
 use Rattle.walks.proofs.Lent.{lying, Shr, lend-mut, lend-shr, back-shr}
+use Rattle.walks.proofs.Local.{pointing, lend-ref, back-ref}
 use mathlib.Core.List.{List}
+use lib.Dec.{eqb}
 use lib.ListN.{length, take, set}
+use Rattle.settings.specs.Answer.{refuses}
 use Rattle.wire.specs.Content.{content}
+use Rattle.wire.specs.Shape.{badLength}
 use Rattle.blocks.specs.declared.Block.{Block}
-use Rattle.protocol.specs.Refusals.{regionRules, timerRules}
+use Rattle.blocks.specs.Store.{held as heldOf}
+use Rattle.blocks.proofs.Ancestry.{is-true, is-false}
+use Rattle.memory.specs.Leaders.{byList}
 use Rattle.protocol.specs.Events.{onRecord, onTimer, onPropose}
 use Rattle.protocol.specs.Rules.{again as turnsOf}
-use Rattle.protocol.specs.Calls.{recordCall, timerCall, proposeCall, _then_}
-use Rattle.refusals.specs.Number.{answerOf, firstOf}
+use Rattle.protocol.specs.Calls.{recordCall, timerCall, proposeCall}
+use Rattle.refusals.specs.Number.{answerOf, firstOf, orElse}
 use Rattle.refusals.specs.Early.{lent}
 use Rattle.judge.specs.Want.{recordWant, proposeWant}
+use Rattle.judge.specs.Late.{lateRules, latePropose}
 use Rattle.act.specs.Draft.{workOf, left, leftBy}
-use Rattle.perform.specs.Perform.{Performs, timerNumber, TimerJudged, proposeNumber, ProposeFound, recordNumber, RecordFound}
+use Rattle.event.specs.Event.{Always, Asked, Proposable}
+use Rattle.perform.specs.Perform.{judgedBy, Judges, Accepted, Lent, Completes, timerNumber, proposeNumber, recordNumber}
 use Rattle.replica.specs.Reply.{replyOf, lentTo, replied, repliedBy}
-use Rattle.replica.proofs.Calling.{concludes, record-is}
-use Rattle.blocks.specs.Store.{held as heldOf}
+use mathlib.Core.Path.{ap, _∙_}
+use Rattle.counters.specs.declared.Counters.{Counters}
+use Rattle.replica.proofs.Calling.{still-judged}
 use Rattle.counters.specs.declared.Counters.{Counters}
 use Rattle.blocks.specs.declared.Block.{Block}
-use Rattle.counters.proofs.Types.{Countersᴿ, Countersᵀ, Countersᴰ, Counters-tip}
-use Rattle.blocks.proofs.Types.{Blockᴿ, Blockᵀ, Blockᴰ, Foundᴰ}
-use Rattle.replica.proofs.Types.{Wantᴰ, Want-count, Want-name, Want-base}
-use Rattle.replica.proofs.Types.{Doneᴰ, Done-refusal}
-use Rattle.replica.proofs.Types.{Draftᴰ, Draft-counters, Draft-at}
+use Rattle.counters.proofs.Types.{Countersᴿ}
+use Rattle.blocks.proofs.Types.{Blockᴿ}
+use Rattle.replica.proofs.Types.{Judgedᴰ}
 use Rattle.replica.proofs.Types.{Replyᴰ}
-use Rattle.judge.proofs.record as judge-record
-use Rattle.judge.proofs.record.Symbol as judge-record-def
-use Rattle.judge.proofs.record.Met as judge-record-thm
-use Rattle.blocks.proofs.held as held
-use Rattle.blocks.proofs.held.Symbol as held-def
-use Rattle.blocks.proofs.held.Met as held-thm
-use Rattle.perform.proofs.record as perform-record
-use Rattle.perform.proofs.record.Symbol as perform-record-def
-use Rattle.perform.proofs.record.Met as perform-record-thm
-use Rattle.replica.proofs.conclude as conclude
-use Rattle.replica.proofs.conclude.Symbol as conclude-def
-use Rattle.replica.proofs.conclude.Met as conclude-thm
-use Rattle.replica.proofs.answer as answer
-use Rattle.replica.proofs.answer.Symbol as answer-def
-use Rattle.replica.proofs.answer.Met as answer-thm
+use Rattle.replica.proofs.record_judged as record-judged
+use Rattle.replica.proofs.record_judged.Symbol as record-judged-def
+use Rattle.replica.proofs.record_judged.Met as record-judged-thm
+use Rattle.replica.proofs.record_answered as record-answered
+use Rattle.replica.proofs.record_answered.Symbol as record-answered-def
+use Rattle.replica.proofs.record_answered.Met as record-answered-thm
 use Rattle.replica.proofs.hydrangea_record.Key.{name as #f}
 use Rattle.replica.proofs.hydrangea_record as f
 use Rattle.replica.proofs.hydrangea_record.Statement as stated
@@ -53,24 +51,15 @@ abbrev stayed : Stays (f.ended .signature .params) (f.ended .kept)
 stayed = (stay-ref (0 ∷ []) tt (plain (λ _. Countersᴿ)), (stay-slice (1 ∷ []) tt (plain (λ _. u8)), (stay-slice (2 ∷ []) tt (plain (λ _. Blockᴿ)), (stay-slice (3 ∷ []) tt (plain (λ _. u8)), (stay-dropped (shrSliceOf (4 ∷ []) tt (plain (λ _. u8))) yes, tt)))))
 
 module _ {M : Type 1} (𝓤 : URA M) (H : Heap 𝓤) (A : Atoms 𝓤) (mem : Memory → SProp 𝓤) (run : Routine → Fun 𝓤) where
-  abbrev judge-recordᶜ : Contract 𝓤
-  judge-recordᶜ = tripleOf 𝓤 H A judge-record.signature (judge-record.spec 𝓤 H A mem run)
+  abbrev record-judgedᶜ : Contract 𝓤
+  record-judgedᶜ = tripleOf 𝓤 H A record-judged.signature (record-judged.spec 𝓤 H A mem run)
 
-  abbrev heldᶜ : Contract 𝓤
-  heldᶜ = tripleOf 𝓤 H A held.signature (held.spec 𝓤 H A mem run)
-
-  abbrev perform-recordᶜ : Contract 𝓤
-  perform-recordᶜ = tripleOf 𝓤 H A perform-record.signature (perform-record.spec 𝓤 H A mem run)
-
-  abbrev concludeᶜ : Contract 𝓤
-  concludeᶜ = tripleOf 𝓤 H A conclude.signature (conclude.spec 𝓤 H A mem run)
-
-  abbrev answerᶜ : Contract 𝓤
-  answerᶜ = tripleOf 𝓤 H A answer.signature (answer.spec 𝓤 H A mem run)
+  abbrev record-answeredᶜ : Contract 𝓤
+  record-answeredᶜ = tripleOf 𝓤 H A record-answered.signature (record-answered.spec 𝓤 H A mem run)
 
   -- what is known of the callees
   abbrev Known : Calls 𝓤 H → Type 1
-  Known C = Triple 𝓤 (C judge-record-def.name) judge-recordᶜ × (Triple 𝓤 (C held-def.name) heldᶜ × (Triple 𝓤 (C perform-record-def.name) perform-recordᶜ × (Triple 𝓤 (C conclude-def.name) concludeᶜ × Triple 𝓤 (C answer-def.name) answerᶜ)))
+  Known C = Triple 𝓤 (C record-judged-def.name) record-judgedᶜ × Triple 𝓤 (C record-answered-def.name) record-answeredᶜ
 
 module _ {M : Type 1} (𝓤 : URA M) (H : Heap 𝓤) (A : Atoms 𝓤) (W : Given 𝓤 H A) (mem : Memory → SProp 𝓤) (run : Routine → Fun 𝓤) (κ0 κ1 κ2 κ3 κ4 : Lft) (q0 q1 q2 q3 q4 : Share) (cs-b cs-o : ℕ) (cs-γ : GName) (cs : Counters) (m-b m-o : ℕ) (m-γ : GName) (m : List ℕ) (ys-b ys-o : ℕ) (ys-γ : GName) (ys : List Block) (out-b out-o : ℕ) (out-γ : GName) (out : List ℕ) (rec-b rec-o : ℕ) (rec-γ : GName) (rec : List ℕ)
     (m-room : Room u8 (length m)) (ys-room : Room Blockᴿ (length ys)) (out-room : Room u8 (length out)) (rec-room : Room u8 (length rec)) where
@@ -108,26 +97,15 @@ module _ {M : Type 1} (𝓤 : URA M) (H : Heap 𝓤) (A : Atoms 𝓤) (W : Given
       → ent 𝓤 (onEntry 𝓤 H A f.signature (κ0, (κ1, (κ2, (κ3, (κ4, tt))))) (q0, (q1, (q2, (q3, (q4, tt))))) (y .0 .3) (y .0 .4)) (WpFn 𝓤 H C Λ code.function (vptr cs-b cs-o ∷ m-s ∷ ys-s ∷ out-s ∷ rec-s ∷ []) Post)
   walk C Λ fm known =
       qed W ((‵ (flft κ0 q0) ⊛ (‵ (flft κ1 q1) ⊛ (‵ (flft κ2 q2) ⊛ (‵ (flft κ3 q3) ⊛ (‵ (flft κ4 q4) ⊛ ‵ ftrue))))) ∷ ‵ (owns (MutRef (named 0) κ0 Countersᴿ ∷ MutSlice (named 1) κ1 u8 ∷ MutSlice (named 2) κ2 Blockᴿ ∷ MutSlice (named 3) κ3 u8 ∷ ShrSlice (named 4) κ4 u8 ∷ []) (y .0 .3) (y .0 .4)) ∷ []) ∵ enter ! C Λ code.function (vptr cs-b cs-o ∷ m-s ∷ ys-s ∷ out-s ∷ rec-s ∷ []) _ $
-      alloc1 ! (λ l₀. alloc1 ! (λ l₁. alloc1 ! (λ l₂. alloc1 ! (λ l₃. alloc1 ! (λ l₄. alloc1 ! (λ l₅. alloc1 ! (λ l₆. alloc1 ! (λ l₇. alloc1 ! (λ l₈. alloc1 ! (λ l₉. alloc1 ! (λ l₁₀. alloc1 ! (λ l₁₁. alloc1 ! (λ l₁₂. alloc1 ! (λ l₁₃. alloc1 ! (λ l₁₄. alloc1 ! (λ l₁₅. alloc1 ! (λ l₁₆. alloc1 ! (λ l₁₇. alloc1 ! (λ l₁₈. alloc1 ! (λ l₁₉. alloc1 ! (λ l₂₀. alloc1 ! (λ l₂₁. alloc1 ! (λ l₂₂. alloc1 ! (λ l₂₃. alloc1 ! (λ l₂₄. alloc1 ! (λ l₂₅. alloc1 ! (λ l₂₆. alloc1 ! (λ l₂₇. alloc1 ! (λ l₂₈. alloc1 ! (λ l₂₉. alloc0 ! $ params1 ! $ pass1 ! (init ! 56 refl (tt, tt)) $ pass1 ! (init ! 54 refl (tt, (tt, (record { fits = m-room .0 }, tt)))) $ pass1 ! (init ! 52 refl (tt, (tt, (record { fits = ys-room .0 }, tt)))) $ pass1 ! (init ! 50 refl (tt, (tt, (record { fits = out-room .0 }, tt)))) $ pass1 ! (init ! 48 refl (tt, (tt, (record { fits = rec-room .0 }, tt)))) $ pass0 ! $ move ! (60 ∷ []) $ split ! $ move ! (1 ∷ []) $ split ! $ move ! (1 ∷ []) $ split ! $ move ! (1 ∷ []) $ split ! $ move ! (1 ∷ []) $ split ! $ move ! (1 ∷ []) $ drop ! $ move ! (65 ∷ []) $ fsplit ! $ fsplit3 ! $ drop ! $ move ! (2 ∷ []) $ fsplit ! $ move ! (1 ∷ []) $ fsplit ! $ move ! (1 ∷ []) $ fsplit ! $ move ! (1 ∷ []) $ fsplit ! $ move ! (1 ∷ []) $ drop ! $ move ! (4 ∷ 5 ∷ 10 ∷ []) $ opens ! tt Countersᴿ {h = cs} cs-b cs-o (λ cs-vs. spelt ! Countersᴿ (Is Countersᴿ) (shows 𝓤 H A Countersᴿ) (λ x. Countersᴰ .val x ∷ []) (Countersᴰ .tells) fullShare cs cs-vs cs-b cs-o $ move ! (1 ∷ []) $ peeks ! Countersᴿ (Is Countersᴿ) (shows 𝓤 H A Countersᴿ) cs ((Countersᴰ .val cs) ∷ []) (λ cs-is. move ! (1 ∷ 0 ∷ []) $ assigns ! (of-opd ! (load ! (from ! (hop ! (look ! 69 refl) (stop !))) (look-raw ! 0 refl))) (from ! (stop !)) (init ! 59 refl (fits W Countersᴰ cs cs-is .0)) $ assigns ! (addr ! (from ! (fld ! refl (hop ! (look-in ! 67 (sub ! 0 refl (whole !))) (stop !))))) (from ! (stop !)) (init ! 47 refl (tt, tt)) $ assigns ! (agg ! (and-then ! (load ! (from ! (stop !)) (look ! 47 refl)) (and-then ! (load ! (from ! (fld ! refl (stop !))) (look-in ! 67 (sub ! 1 refl (whole !)))) (no-more !)))) (from ! (stop !)) (init ! 45 refl (tt, (tt, (record { fits = m-room .0 }, tt)))) $ assigns ! (of-opd ! (load ! (from ! (fld ! refl (stop !))) (look-in ! 65 (sub ! 1 refl (whole !))))) (from ! (stop !)) (init ! 43 refl (fits W word ys-n (refl, ys-room .0) .0)) $ assigns ! (of-opd ! (load ! (from ! (fld ! refl (stop !))) (look-in ! 63 (sub ! 1 refl (whole !))))) (from ! (stop !)) (init ! 41 refl (fits W word out-n (refl, out-room .0) .0)) $
-      -- call 0: `judge::record`
-      move ! (8 ∷ 12 ∷ []) $ lend-shr ! tt u8 m-b m-o m-n m m-room refl (λ ν0-0 δ0-0. move ! (8 ∷ []) $ use1 W (‵ (Shr u8 κ4 rec-b rec-o rec-γ rec-n rec) ⊛ ‵ (Shr u8 κ4 rec-b rec-o rec-γ rec-n rec)) (shr-slice-copy 𝓤 H A W (named 0) κ4 u8 .twice (lying u8 rec-b rec-o rec-γ rec) (rec-s ∷ [])) $ split ! $
-      let y0 : judge-recordᶜ 𝓤 H A mem run .Ghost = ((((ν0-0 ∷ []), (κ4, tt)), (fullShare, (q4, tt)), tt, (cs, (lying u8 m-b m-o δ0-0 m, (ys-n, (out-n, (lying u8 rec-b rec-o rec-γ rec, tt))))), ((Countersᴰ .val cs) ∷ [], (m-s ∷ [], ((word .val ys-n) ∷ [], ((word .val out-n) ∷ [], (rec-s ∷ [], tt)))))), tt) in move ! (2 ∷ 12 ∷ 3 ∷ 0 ∷ []) $ asks ! judge-record.ended (judge-record.clauses 𝓤 H A mem run) y0 4 (of W Countersᴰ cs cs-is (held (of W word ys-n (refl, ys-room .0) (of W word out-n (refl, out-room .0) (held end))))) refl (id⊢ 𝓤 _) $ calls-at ! fm (judge-recordᶜ 𝓤 H A mem run) (known .0) y0 (and-then ! (load ! (from ! (stop !)) (look ! 58 refl)) (and-then ! (load ! (from ! (stop !)) (look ! 44 refl)) (and-then ! (load ! (from ! (stop !)) (look ! 42 refl)) (and-then ! (load ! (from ! (stop !)) (look ! 40 refl)) (and-then ! (load ! (from ! (stop !)) (look ! 60 refl)) (no-more !)))))) (λ w0. came ! judge-record.ended (judge-record.clauses 𝓤 H A mem run) y0 w0 Wantᴰ 55 refl refl ([]) (λ r ws. (s : List Block) → length s ≡ ys-n → r ≡ recordWant (lent cs m s) out-n rec) (λ r ws. id⊢ 𝓤 _) (λ r0 ws0 is0 e0. move ! (0 ∷ 3 ∷ []) $ back-shr ! tt u8 m-b m-o m-n m m-room refl $ assigns ! (addr ! (from ! (fld ! refl (hop ! (look-in ! 65 (sub ! 0 refl (whole !))) (stop !))))) (from ! (stop !)) (init ! 39 refl (tt, tt)) $ assigns ! (agg ! (and-then ! (load ! (from ! (stop !)) (look ! 39 refl)) (and-then ! (load ! (from ! (fld ! refl (stop !))) (look-in ! 65 (sub ! 1 refl (whole !)))) (no-more !)))) (from ! (stop !)) (init ! 37 refl (tt, (tt, (record { fits = ys-room .0 }, tt)))) $
-      -- call 1: `blocks::held`
-      move ! (10 ∷ 12 ∷ []) $ lend-shr ! tt Blockᴿ ys-b ys-o ys-n ys ys-room refl (λ ν1-0 δ1-0.
-      let y1 : heldᶜ 𝓤 H A mem run .Ghost = ((((ν1-0 ∷ []), tt), (fullShare, tt), tt, (lying Blockᴿ ys-b ys-o δ1-0 ys, ((r0 .count), ((cs .tip), ((r0 .name), tt)))), (ys-s ∷ [], ((word .val (r0 .count)) ∷ [], ((Blockᴰ .val (cs .tip)) ∷ [], (((bytes 32) .val (r0 .name)) ∷ [], tt))))), tt) in asks ! held.ended (held.clauses 𝓤 H A mem run) y1 2 (held (of W word (r0 .count) (Want-count r0 is0) (of W Blockᴰ (cs .tip) (Counters-tip cs cs-is) (of W (bytes 32) (r0 .name) (Want-name r0 is0) end)))) refl (id⊢ 𝓤 _) $ calls-at ! fm (heldᶜ 𝓤 H A mem run) (known .1 .0) y1 (and-then ! (load ! (from ! (stop !)) (look ! 37 refl)) (and-then ! (load ! (from ! (fld ! {τ = tyInt w64} {d = 8} refl (stop !))) (look-in ! 57 {τ = tyInt w64} (sub ! 1 {τ = tyInt w64} {d = 8} refl (whole !)))) (and-then ! (load ! (from ! (fld ! {τ = Blockᵀ} {d = 152} refl (stop !))) (look-in ! 59 {τ = Blockᵀ} (sub ! 5 {τ = Blockᵀ} {d = 152} refl (whole !)))) (and-then ! (load ! (from ! (fld ! {τ = tyArray (tyInt w8) 32} {d = 16} refl (stop !))) (look-in ! 57 {τ = tyArray (tyInt w8) 32} (sub ! 2 {τ = tyArray (tyInt w8) 32} {d = 16} refl (whole !)))) (no-more !))))) (λ w1. came ! held.ended (held.clauses 𝓤 H A mem run) y1 w1 Foundᴰ 54 refl refl ([]) (λ r ws. r ≡ heldOf (cs .tip) (take (r0 .count) ys) (r0 .name)) (λ r ws. id⊢ 𝓤 _) (λ r1 ws1 is1 e1. back-shr ! tt Blockᴿ ys-b ys-o ys-n ys ys-room refl $ assigns ! (addr ! (from ! (fld ! refl (hop ! (look-in ! 65 (sub ! 0 refl (whole !))) (stop !))))) (from ! (stop !)) (init ! 35 refl (tt, tt)) $ assigns ! (agg ! (and-then ! (load ! (from ! (stop !)) (look ! 35 refl)) (and-then ! (load ! (from ! (fld ! refl (stop !))) (look-in ! 65 (sub ! 1 refl (whole !)))) (no-more !)))) (from ! (stop !)) (init ! 33 refl (tt, (tt, (record { fits = ys-room .0 }, tt)))) $
-      -- call 2: `blocks::held`
-      lend-shr ! tt Blockᴿ ys-b ys-o ys-n ys ys-room refl (λ ν2-0 δ2-0.
-      let y2 : heldᶜ 𝓤 H A mem run .Ghost = ((((ν2-0 ∷ []), tt), (fullShare, tt), tt, (lying Blockᴿ ys-b ys-o δ2-0 ys, ((r0 .count), ((cs .tip), ((r0 .base), tt)))), (ys-s ∷ [], ((word .val (r0 .count)) ∷ [], ((Blockᴰ .val (cs .tip)) ∷ [], (((bytes 32) .val (r0 .base)) ∷ [], tt))))), tt) in asks ! held.ended (held.clauses 𝓤 H A mem run) y2 2 (held (of W word (r0 .count) (Want-count r0 is0) (of W Blockᴰ (cs .tip) (Counters-tip cs cs-is) (of W (bytes 32) (r0 .base) (Want-base r0 is0) end)))) refl (id⊢ 𝓤 _) $ calls-at ! fm (heldᶜ 𝓤 H A mem run) (known .1 .0) y2 (and-then ! (load ! (from ! (stop !)) (look ! 33 refl)) (and-then ! (load ! (from ! (fld ! {τ = tyInt w64} {d = 8} refl (stop !))) (look-in ! 57 {τ = tyInt w64} (sub ! 1 {τ = tyInt w64} {d = 8} refl (whole !)))) (and-then ! (load ! (from ! (fld ! {τ = Blockᵀ} {d = 152} refl (stop !))) (look-in ! 59 {τ = Blockᵀ} (sub ! 5 {τ = Blockᵀ} {d = 152} refl (whole !)))) (and-then ! (load ! (from ! (fld ! {τ = tyArray (tyInt w8) 32} {d = 48} refl (stop !))) (look-in ! 57 {τ = tyArray (tyInt w8) 32} (sub ! 3 {τ = tyArray (tyInt w8) 32} {d = 48} refl (whole !)))) (no-more !))))) (λ w2. came ! held.ended (held.clauses 𝓤 H A mem run) y2 w2 Foundᴰ 52 refl refl ([]) (λ r ws. r ≡ heldOf (cs .tip) (take (r0 .count) ys) (r0 .base)) (λ r ws. id⊢ 𝓤 _) (λ r2 ws2 is2 e2. back-shr ! tt Blockᴿ ys-b ys-o ys-n ys ys-room refl $ assigns ! (addr ! (from ! (fld ! refl (hop ! (look-in ! 67 (sub ! 0 refl (whole !))) (stop !))))) (from ! (stop !)) (init ! 31 refl (tt, tt)) $ assigns ! (agg ! (and-then ! (load ! (from ! (stop !)) (look ! 31 refl)) (and-then ! (load ! (from ! (fld ! refl (stop !))) (look-in ! 67 (sub ! 1 refl (whole !)))) (no-more !)))) (from ! (stop !)) (init ! 29 refl (tt, (tt, (record { fits = m-room .0 }, tt)))) $ assigns ! (addr ! (from ! (fld ! refl (hop ! (look-in ! 63 (sub ! 0 refl (whole !))) (stop !))))) (from ! (stop !)) (init ! 27 refl (tt, tt)) $ assigns ! (agg ! (and-then ! (load ! (from ! (stop !)) (look ! 27 refl)) (and-then ! (load ! (from ! (fld ! refl (stop !))) (look-in ! 63 (sub ! 1 refl (whole !)))) (no-more !)))) (from ! (stop !)) (init ! 25 refl (tt, (tt, (record { fits = out-room .0 }, tt)))) $
-      -- call 3: `perform::record`
-      move ! (2 ∷ 3 ∷ []) $ lend-mut ! tt u8 m-b m-o m-n m refl (λ ν3-0 δ3-0. move ! (12 ∷ 13 ∷ []) $ lend-mut ! tt u8 out-b out-o out-n out refl (λ ν3-1 δ3-1. move ! (9 ∷ []) $ use1 W (‵ (Shr u8 κ4 rec-b rec-o rec-γ rec-n rec) ⊛ ‵ (Shr u8 κ4 rec-b rec-o rec-γ rec-n rec)) (shr-slice-copy 𝓤 H A W (named 0) κ4 u8 .twice (lying u8 rec-b rec-o rec-γ rec) (rec-s ∷ [])) $ split ! $
-      let y3 : perform-recordᶜ 𝓤 H A mem run .Ghost = ((((ν3-0 ∷ []), ((ν3-1 ∷ []), (κ4, tt))), (fullShare, (fullShare, (q4, tt))), tt, (cs, (lying u8 m-b m-o δ3-0 m, (lying u8 out-b out-o δ3-1 out, (lying u8 rec-b rec-o rec-γ rec, (r0, (r1, (r2, tt))))))), ((Countersᴰ .val cs) ∷ [], (m-s ∷ [], (out-s ∷ [], (rec-s ∷ [], ((Wantᴰ .val r0) ∷ [], ((Foundᴰ .val r1) ∷ [], ((Foundᴰ .val r2) ∷ [], tt)))))))), tt) in move ! (5 ∷ 2 ∷ 10 ∷ 6 ∷ 3 ∷ 0 ∷ []) $ asks ! perform-record.ended (perform-record.clauses 𝓤 H A mem run) y3 6 (of W Countersᴰ cs cs-is (held (held (held (of W Wantᴰ r0 is0 (of W Foundᴰ r1 is1 (of W Foundᴰ r2 is2 end))))))) refl (so 𝓤 (record { store = ys; given = record { want = e0 ys refl; found = e1; under = e2 } })) $ calls-at ! fm (perform-recordᶜ 𝓤 H A mem run) (known .1 .1 .0) y3 (and-then ! (load ! (from ! (stop !)) (look ! 57 refl)) (and-then ! (load ! (from ! (stop !)) (look ! 27 refl)) (and-then ! (load ! (from ! (stop !)) (look ! 23 refl)) (and-then ! (load ! (from ! (stop !)) (look ! 59 refl)) (and-then ! (load ! (from ! (stop !)) (look ! 55 refl)) (and-then ! (load ! (from ! (stop !)) (look ! 53 refl)) (and-then ! (load ! (from ! (stop !)) (look ! 51 refl)) (no-more !)))))))) (λ w3. came ! perform-record.ended (perform-record.clauses 𝓤 H A mem run) y3 w3 Doneᴰ 48 refl refl (false ∷ true ∷ true ∷ false ∷ false ∷ false ∷ false ∷ []) (λ r ws. Performs (recordNumber (length out) rec) (onRecord rec (content rec)) (RecordFound (length out) rec r0 r1 r2) cs m out r (ws .1 .0) (ws .1 .1 .0)) (λ r ws. id⊢ 𝓤 _) (λ r3 ws3 is3 e3. move ! (0 ∷ 3 ∷ 7 ∷ []) $ back-again ! tt u8 m-b m-o m-n m (ws3 .1 .0) m-room refl (λ l3-0. move ! (2 ∷ 4 ∷ 6 ∷ []) $ back-again ! tt u8 out-b out-o out-n out (ws3 .1 .1 .0) out-room refl (λ l3-1. assigns ! (addr ! (from ! (fld ! refl (hop ! (look-in ! 67 (sub ! 0 refl (whole !))) (stop !))))) (from ! (stop !)) (init ! 23 refl (tt, tt)) $ assigns ! (agg ! (and-then ! (load ! (from ! (stop !)) (look ! 23 refl)) (and-then ! (load ! (from ! (fld ! refl (stop !))) (look-in ! 67 (sub ! 1 refl (whole !)))) (no-more !)))) (from ! (stop !)) (init ! 21 refl (tt, (tt, (record { fits = m-room .0 }, tt)))) $ assigns ! (addr ! (from ! (fld ! refl (hop ! (look-in ! 65 (sub ! 0 refl (whole !))) (stop !))))) (from ! (stop !)) (init ! 19 refl (tt, tt)) $ assigns ! (agg ! (and-then ! (load ! (from ! (stop !)) (look ! 19 refl)) (and-then ! (load ! (from ! (fld ! refl (stop !))) (look-in ! 65 (sub ! 1 refl (whole !)))) (no-more !)))) (from ! (stop !)) (init ! 17 refl (tt, (tt, (record { fits = ys-room .0 }, tt)))) $ assigns ! (addr ! (from ! (fld ! refl (hop ! (look-in ! 63 (sub ! 0 refl (whole !))) (stop !))))) (from ! (stop !)) (init ! 15 refl (tt, tt)) $ assigns ! (agg ! (and-then ! (load ! (from ! (stop !)) (look ! 15 refl)) (and-then ! (load ! (from ! (fld ! refl (stop !))) (look-in ! 63 (sub ! 1 refl (whole !)))) (no-more !)))) (from ! (stop !)) (init ! 13 refl (tt, (tt, (record { fits = out-room .0 }, tt)))) $
-      -- call 4: `replica::conclude`
-      move ! (2 ∷ 3 ∷ []) $ lend-mut ! tt u8 m-b m-o m-n (ws3 .1 .0) l3-0 (λ ν4-0 δ4-0. move ! (7 ∷ 8 ∷ []) $ lend-mut ! tt Blockᴿ ys-b ys-o ys-n ys refl (λ ν4-1 δ4-1. move ! (6 ∷ 7 ∷ []) $ lend-mut ! tt u8 out-b out-o out-n (ws3 .1 .1 .0) l3-1 (λ ν4-2 δ4-2.
-      let y4 : concludeᶜ 𝓤 H A mem run .Ghost = ((((ν4-0 ∷ []), ((ν4-1 ∷ []), ((ν4-2 ∷ []), tt))), (fullShare, (fullShare, (fullShare, tt))), tt, (lying u8 m-b m-o δ4-0 (ws3 .1 .0), (lying Blockᴿ ys-b ys-o δ4-1 ys, (lying u8 out-b out-o δ4-2 (ws3 .1 .1 .0), (r3, tt)))), (m-s ∷ [], (ys-s ∷ [], (out-s ∷ [], ((Doneᴰ .val r3) ∷ [], tt))))), tt) in move ! (6 ∷ 3 ∷ 0 ∷ 7 ∷ 4 ∷ 1 ∷ []) $ asks ! conclude.ended (conclude.clauses 𝓤 H A mem run) y4 6 (held (held (held (of W Doneᴰ r3 is3 end)))) refl (so 𝓤 (concludes ys e3)) $ calls-at ! fm (concludeᶜ 𝓤 H A mem run) (known .1 .1 .1 .0) y4 (and-then ! (load ! (from ! (stop !)) (look ! 19 refl)) (and-then ! (load ! (from ! (stop !)) (look ! 15 refl)) (and-then ! (load ! (from ! (stop !)) (look ! 11 refl)) (and-then ! (load ! (from ! (stop !)) (look ! 49 refl)) (no-more !))))) (λ w4. came ! conclude.ended (conclude.clauses 𝓤 H A mem run) y4 w4 Draftᴰ 46 refl refl (true ∷ true ∷ true ∷ false ∷ []) (λ r ws. left r (ws .0) (ws .1 .1 .0) (ws .1 .0) ≡ leftBy (turnsOf (r3 .turns) (workOf (r3 .draft) (ws3 .1 .0) (ws3 .1 .1 .0) (set ys (r3 .place) (r3 .block)))) (ws3 .1 .1 .0)) (λ r ws. id⊢ 𝓤 _) (λ r4 ws4 is4 e4. move ! (0 ∷ 3 ∷ 8 ∷ []) $ back-again ! tt u8 m-b m-o m-n (ws3 .1 .0) (ws4 .0) m-room l3-0 (λ l4-0. move ! (2 ∷ 4 ∷ 7 ∷ []) $ back-again ! tt Blockᴿ ys-b ys-o ys-n ys (ws4 .1 .0) ys-room refl (λ l4-1. move ! (4 ∷ 5 ∷ 6 ∷ []) $ back-again ! tt u8 out-b out-o out-n (ws3 .1 .1 .0) (ws4 .1 .1 .0) out-room l3-1 (λ l4-2. assigns ! (of-opd ! (load ! (from ! (fld ! {τ = Countersᵀ} {d = 0} refl (stop !))) (look-in ! 49 {τ = Countersᵀ} (sub ! 0 {τ = Countersᵀ} {d = 0} refl (whole !))))) (from ! (hop ! (look ! 69 refl) (stop !))) (store-raw ! 8 refl (fits W Countersᴰ (r4 .counters) (Draft-counters r4 is4) .0)) $
-      -- call 5: `replica::answer`
-      let y5 : answerᶜ 𝓤 H A mem run .Ghost = ((tt, tt, tt, ((r3 .refusal), ((r4 .at), tt)), ((word .val (r3 .refusal)) ∷ [], ((word .val (r4 .at)) ∷ [], tt))), tt) in asks ! answer.ended (answer.clauses 𝓤 H A mem run) y5 0 (of W word (r3 .refusal) (Done-refusal r3 is3) (of W word (r4 .at) (Draft-at r4 is4) end)) refl (id⊢ 𝓤 _) $ calls-at ! fm (answerᶜ 𝓤 H A mem run) (known .1 .1 .1 .1) y5 (and-then ! (load ! (from ! (fld ! {τ = tyInt w64} {d = 0} refl (stop !))) (look-in ! 52 {τ = tyInt w64} (sub ! 0 {τ = tyInt w64} {d = 0} refl (whole !)))) (and-then ! (load ! (from ! (fld ! {τ = tyInt w64} {d = 224} refl (stop !))) (look-in ! 50 {τ = tyInt w64} (sub ! 1 {τ = tyInt w64} {d = 224} refl (whole !)))) (no-more !))) (λ w5. came ! answer.ended (answer.clauses 𝓤 H A mem run) y5 w5 Replyᴰ 71 refl refl ([]) (λ r ws. r ≡ replyOf (answerOf (r3 .refusal) (r4 .at))) (λ r ws. id⊢ 𝓤 _) (λ r5 ws5 is5 e5.
+      alloc1 ! (λ l₀. alloc1 ! (λ l₁. alloc1 ! (λ l₂. alloc1 ! (λ l₃. alloc1 ! (λ l₄. alloc1 ! (λ l₅. alloc1 ! (λ l₆. alloc1 ! (λ l₇. alloc1 ! (λ l₈. alloc1 ! (λ l₉. alloc1 ! (λ l₁₀. alloc1 ! (λ l₁₁. alloc1 ! (λ l₁₂. alloc1 ! (λ l₁₃. alloc1 ! (λ l₁₄. alloc1 ! (λ l₁₅. alloc1 ! (λ l₁₆. alloc1 ! (λ l₁₇. alloc1 ! (λ l₁₈. alloc1 ! (λ l₁₉. alloc0 ! $ params1 ! $ pass1 ! (init ! 36 refl (tt, tt)) $ pass1 ! (init ! 34 refl (tt, (tt, (record { fits = m-room .0 }, tt)))) $ pass1 ! (init ! 32 refl (tt, (tt, (record { fits = ys-room .0 }, tt)))) $ pass1 ! (init ! 30 refl (tt, (tt, (record { fits = out-room .0 }, tt)))) $ pass1 ! (init ! 28 refl (tt, (tt, (record { fits = rec-room .0 }, tt)))) $ pass0 ! $ move ! (40 ∷ []) $ split ! $ move ! (1 ∷ []) $ split ! $ move ! (1 ∷ []) $ split ! $ move ! (1 ∷ []) $ split ! $ move ! (1 ∷ []) $ split ! $ move ! (1 ∷ []) $ drop ! $ move ! (45 ∷ []) $ fsplit ! $ move ! (1 ∷ []) $ fsplit ! $ move ! (1 ∷ []) $ fsplit ! $ move ! (1 ∷ []) $ fsplit ! $ move ! (1 ∷ []) $ fsplit ! $ move ! (1 ∷ []) $ drop ! $ assigns ! (addr ! (from ! (hop ! (look ! 46 refl) (stop !)))) (from ! (stop !)) (init ! 34 refl (tt, tt)) $ assigns ! (addr ! (from ! (fld ! refl (hop ! (look-in ! 44 (sub ! 0 refl (whole !))) (stop !))))) (from ! (stop !)) (init ! 32 refl (tt, tt)) $ assigns ! (agg ! (and-then ! (load ! (from ! (stop !)) (look ! 32 refl)) (and-then ! (load ! (from ! (fld ! refl (stop !))) (look-in ! 44 (sub ! 1 refl (whole !)))) (no-more !)))) (from ! (stop !)) (init ! 30 refl (tt, (tt, (record { fits = m-room .0 }, tt)))) $ assigns ! (addr ! (from ! (fld ! refl (hop ! (look-in ! 42 (sub ! 0 refl (whole !))) (stop !))))) (from ! (stop !)) (init ! 28 refl (tt, tt)) $ assigns ! (agg ! (and-then ! (load ! (from ! (stop !)) (look ! 28 refl)) (and-then ! (load ! (from ! (fld ! refl (stop !))) (look-in ! 42 (sub ! 1 refl (whole !)))) (no-more !)))) (from ! (stop !)) (init ! 26 refl (tt, (tt, (record { fits = ys-room .0 }, tt)))) $ assigns ! (of-opd ! (load ! (from ! (fld ! refl (stop !))) (look-in ! 40 (sub ! 1 refl (whole !))))) (from ! (stop !)) (init ! 24 refl (fits W word out-n (refl, out-room .0) .0)) $
+      -- call 0: `replica::record_judged`
+      move ! (4 ∷ 9 ∷ []) $ lend-ref ! tt Countersᴿ cs-b cs-o cs (λ ν0-0 δ0-0. move ! (6 ∷ 10 ∷ []) $ lend-shr ! tt u8 m-b m-o m-n m m-room refl (λ ν0-1 δ0-1. move ! (8 ∷ 11 ∷ []) $ lend-shr ! tt Blockᴿ ys-b ys-o ys-n ys ys-room refl (λ ν0-2 δ0-2. move ! (9 ∷ []) $ use1 W (‵ (Shr u8 κ4 rec-b rec-o rec-γ rec-n rec) ⊛ ‵ (Shr u8 κ4 rec-b rec-o rec-γ rec-n rec)) (shr-slice-copy 𝓤 H A W (named 0) κ4 u8 .twice (lying u8 rec-b rec-o rec-γ rec) (rec-s ∷ [])) $ split ! $
+      let y0 : record-judgedᶜ 𝓤 H A mem run .Ghost = ((((ν0-0 ∷ []), ((ν0-1 ∷ []), ((ν0-2 ∷ []), (κ4, tt)))), (fullShare, (fullShare, (fullShare, (q4, tt)))), tt, (pointing Countersᴿ cs-b cs-o δ0-0 cs, (lying u8 m-b m-o δ0-1 m, (lying Blockᴿ ys-b ys-o δ0-2 ys, (out-n, (lying u8 rec-b rec-o rec-γ rec, tt))))), (vptr cs-b cs-o ∷ [], (m-s ∷ [], (ys-s ∷ [], ((word .val out-n) ∷ [], (rec-s ∷ [], tt)))))), tt) in move ! (8 ∷ 5 ∷ 2 ∷ 12 ∷ 9 ∷ 6 ∷ 3 ∷ 0 ∷ []) $ asks ! record-judged.ended (record-judged.clauses 𝓤 H A mem run) y0 8 (held (held (held (of W word out-n (refl, out-room .0) (held end))))) refl (id⊢ 𝓤 _) $ calls-at ! fm (record-judgedᶜ 𝓤 H A mem run) (known .0) y0 (and-then ! (load ! (from ! (stop !)) (look ! 31 refl)) (and-then ! (load ! (from ! (stop !)) (look ! 27 refl)) (and-then ! (load ! (from ! (stop !)) (look ! 23 refl)) (and-then ! (load ! (from ! (stop !)) (look ! 21 refl)) (and-then ! (load ! (from ! (stop !)) (look ! 35 refl)) (no-more !)))))) (λ w0. came ! record-judged.ended (record-judged.clauses 𝓤 H A mem run) y0 w0 Judgedᴰ 32 refl refl (true ∷ false ∷ false ∷ false ∷ false ∷ []) (λ r ws. ((ws .0) ≡ cs) × Judges (recordNumber out-n rec) (Asked rec (r .held)) (r .accepted) (r .refusal) (lent cs m ys)) (λ r ws. id⊢ 𝓤 _) (λ r0 ws0 is0 e0. move ! (0 ∷ 4 ∷ 8 ∷ []) $ back-ref ! tt Countersᴿ cs-b cs-o cs (ws0 .0) $ move ! (2 ∷ 7 ∷ []) $ back-shr ! tt u8 m-b m-o m-n m m-room refl $ move ! (4 ∷ 7 ∷ []) $ back-shr ! tt Blockᴿ ys-b ys-o ys-n ys ys-room refl $ assigns ! (addr ! (from ! (hop ! (look ! 46 refl) (stop !)))) (from ! (stop !)) (init ! 22 refl (tt, tt)) $ assigns ! (addr ! (from ! (fld ! refl (hop ! (look-in ! 44 (sub ! 0 refl (whole !))) (stop !))))) (from ! (stop !)) (init ! 20 refl (tt, tt)) $ assigns ! (agg ! (and-then ! (load ! (from ! (stop !)) (look ! 20 refl)) (and-then ! (load ! (from ! (fld ! refl (stop !))) (look-in ! 44 (sub ! 1 refl (whole !)))) (no-more !)))) (from ! (stop !)) (init ! 18 refl (tt, (tt, (record { fits = m-room .0 }, tt)))) $ assigns ! (addr ! (from ! (fld ! refl (hop ! (look-in ! 42 (sub ! 0 refl (whole !))) (stop !))))) (from ! (stop !)) (init ! 16 refl (tt, tt)) $ assigns ! (agg ! (and-then ! (load ! (from ! (stop !)) (look ! 16 refl)) (and-then ! (load ! (from ! (fld ! refl (stop !))) (look-in ! 42 (sub ! 1 refl (whole !)))) (no-more !)))) (from ! (stop !)) (init ! 14 refl (tt, (tt, (record { fits = ys-room .0 }, tt)))) $ assigns ! (addr ! (from ! (fld ! refl (hop ! (look-in ! 40 (sub ! 0 refl (whole !))) (stop !))))) (from ! (stop !)) (init ! 12 refl (tt, tt)) $ assigns ! (agg ! (and-then ! (load ! (from ! (stop !)) (look ! 12 refl)) (and-then ! (load ! (from ! (fld ! refl (stop !))) (look-in ! 40 (sub ! 1 refl (whole !)))) (no-more !)))) (from ! (stop !)) (init ! 10 refl (tt, (tt, (record { fits = out-room .0 }, tt)))) $
+      -- call 1: `replica::record_answered`
+      move ! (4 ∷ 5 ∷ []) $ lend-ref ! tt Countersᴿ cs-b cs-o (ws0 .0) (λ ν1-0 δ1-0. move ! (5 ∷ 6 ∷ []) $ lend-mut ! tt u8 m-b m-o m-n m refl (λ ν1-1 δ1-1. move ! (6 ∷ 7 ∷ []) $ lend-mut ! tt Blockᴿ ys-b ys-o ys-n ys refl (λ ν1-2 δ1-2. move ! (11 ∷ 12 ∷ []) $ lend-mut ! tt u8 out-b out-o out-n out refl (λ ν1-3 δ1-3. move ! (13 ∷ []) $ use1 W (‵ (Shr u8 κ4 rec-b rec-o rec-γ rec-n rec) ⊛ ‵ (Shr u8 κ4 rec-b rec-o rec-γ rec-n rec)) (shr-slice-copy 𝓤 H A W (named 0) κ4 u8 .twice (lying u8 rec-b rec-o rec-γ rec) (rec-s ∷ [])) $ split ! $
+      let y1 : record-answeredᶜ 𝓤 H A mem run .Ghost = ((((ν1-0 ∷ []), ((ν1-1 ∷ []), ((ν1-2 ∷ []), ((ν1-3 ∷ []), (κ4, tt))))), (fullShare, (fullShare, (fullShare, (fullShare, (q4, tt))))), tt, (pointing Countersᴿ cs-b cs-o δ1-0 (ws0 .0), (lying u8 m-b m-o δ1-1 m, (lying Blockᴿ ys-b ys-o δ1-2 ys, (lying u8 out-b out-o δ1-3 out, (lying u8 rec-b rec-o rec-γ rec, (r0, tt)))))), (vptr cs-b cs-o ∷ [], (m-s ∷ [], (ys-s ∷ [], (out-s ∷ [], (rec-s ∷ [], ((Judgedᴰ .val r0) ∷ [], tt))))))), tt) in move ! (11 ∷ 8 ∷ 5 ∷ 2 ∷ 14 ∷ 12 ∷ 9 ∷ 6 ∷ 3 ∷ 0 ∷ []) $ asks ! record-answered.ended (record-answered.clauses 𝓤 H A mem run) y1 10 (held (held (held (held (held (of W Judgedᴰ r0 is0 end)))))) refl (so 𝓤 (still-judged (e0 .0) m ys (e0 .1))) $ calls-at ! fm (record-answeredᶜ 𝓤 H A mem run) (known .1) y1 (and-then ! (load ! (from ! (stop !)) (look ! 18 refl)) (and-then ! (load ! (from ! (stop !)) (look ! 14 refl)) (and-then ! (load ! (from ! (stop !)) (look ! 10 refl)) (and-then ! (load ! (from ! (stop !)) (look ! 6 refl)) (and-then ! (load ! (from ! (stop !)) (look ! 34 refl)) (and-then ! (load ! (from ! (stop !)) (look ! 32 refl)) (no-more !))))))) (λ w1. came ! record-answered.ended (record-answered.clauses 𝓤 H A mem run) y1 w1 Replyᴰ 43 refl refl (true ∷ true ∷ true ∷ true ∷ false ∷ false ∷ []) (λ r ws. replied r (ws .0) (ws .1 .0) (ws .1 .1 .0) (ws .1 .1 .1 .0) ≡ repliedBy (recordCall byList (lentTo (ws0 .0) m ys) out rec)) (λ r ws. id⊢ 𝓤 _) (λ r1 ws1 is1 e1. move ! (0 ∷ 5 ∷ 13 ∷ []) $ back-ref ! tt Countersᴿ cs-b cs-o (ws0 .0) (ws1 .0) $ move ! (2 ∷ 6 ∷ 12 ∷ []) $ back-again ! tt u8 m-b m-o m-n m (ws1 .1 .0) m-room refl (λ l1-1. move ! (4 ∷ 7 ∷ 11 ∷ []) $ back-again ! tt Blockᴿ ys-b ys-o ys-n ys (ws1 .1 .1 .0) ys-room refl (λ l1-2. move ! (6 ∷ 8 ∷ 10 ∷ []) $ back-again ! tt u8 out-b out-o out-n out (ws1 .1 .1 .1 .0) out-room refl (λ l1-3.
       -- the exit
-      move ! (9 ∷ []) $ drop ! $ owned ! Countersᴿ (Is Countersᴿ) (Countersᴰ .makes 𝓤 H A W) (r4 .counters) _ (Draft-counters r4 is4) $ move ! (9 ∷ 0 ∷ 10 ∷ 11 ∷ 12 ∷ []) $ closes ! tt Countersᴿ (r4 .counters) ((Countersᴰ .val (r4 .counters)) ∷ []) cs-b cs-o $ returns ! (look ! 69 refl) $ leave ! 11 (full _ ∷ full _ ∷ full _ ∷ full _ ∷ full _ ∷ full _ ∷ full _ ∷ full _ ∷ full _ ∷ full _ ∷ full _ ∷ full _ ∷ full _ ∷ full _ ∷ full _ ∷ full _ ∷ full _ ∷ full _ ∷ full _ ∷ full _ ∷ full _ ∷ full _ ∷ full _ ∷ full _ ∷ full _ ∷ full _ ∷ full _ ∷ full _ ∷ full _ ∷ full _ ∷ []) refl $ feqI ! (List Val) (vptr cs-b cs-o ∷ []) (vptr cs-b cs-o ∷ []) refl $ fjoin3 ! $ keep ! (1 ∷ 7 ∷ 5 ∷ 3 ∷ 8 ∷ 0 ∷ 6 ∷ 4 ∷ 2 ∷ []) $ ends W f.ended stayed (f.clauses 𝓤 H A mem run) y (Replyᴰ .val r5) r5 ((r4 .counters), ((ws4 .0), ((ws4 .1 .0), ((ws4 .1 .1 .0), (tt, tt))))) (tt, (l4-0, (l4-1, (l4-2, (tt, tt))))) (Replyᴰ .makes 𝓤 H A W r5 _ is5) (so 𝓤 (record-is cs m out ys (ys-room .0) r3 _ _ r4 _ _ _ e4 r5 e5 rec r0 r1 r2 (record { want = e0 ys refl; found = e1; under = e2 }) e3)) (held (held (held (held (made (id⊢ 𝓤 _) end))))))))))))))))))))))))))))))))))))))))))))))))))))))))))))))
+      returns ! (look ! 48 refl) $ leave ! 10 (full _ ∷ full _ ∷ full _ ∷ full _ ∷ full _ ∷ full _ ∷ full _ ∷ full _ ∷ full _ ∷ full _ ∷ full _ ∷ full _ ∷ full _ ∷ full _ ∷ full _ ∷ full _ ∷ full _ ∷ full _ ∷ full _ ∷ full _ ∷ []) refl $ keep ! (7 ∷ 5 ∷ 3 ∷ 1 ∷ 8 ∷ 6 ∷ 4 ∷ 2 ∷ 0 ∷ []) $ ends W f.ended stayed (f.clauses 𝓤 H A mem run) y (Replyᴰ .val r1) r1 ((ws1 .0), ((ws1 .1 .0), ((ws1 .1 .1 .0), ((ws1 .1 .1 .1 .0), (tt, tt))))) (tt, (l1-1, (l1-2, (l1-3, (tt, tt))))) (Replyᴰ .makes 𝓤 H A W r1 _ is1) (so 𝓤 (e1 ∙ ap (λ (c : Counters). repliedBy (recordCall byList (lentTo c m ys) out rec)) (e0 .0))) (held (held (held (held (made (id⊢ 𝓤 _) end)))))))))))))))))))))))))))))))))))))))
 
 module _ {M : Type 1} (𝓤 : URA M) (H : Heap 𝓤) (A : Atoms 𝓤) (W : Given 𝓤 H A) (mem : Memory → SProp 𝓤) (run : Routine → Fun 𝓤) where
   goes : AllGo 𝓤 H A W 5 (f.signature .params) (f.ended .kept) stayed
@@ -146,4 +124,4 @@ hydrangea-record-spec 𝓤 H 𝓜 𝓖 𝓡 =
     entered 𝓤 H (tripleOf 𝓤 H (𝓖 .A) f.signature (f.spec 𝓤 H (𝓖 .A) (𝓜 .mem) (𝓡 .run)))
     (tables 𝓤 H 𝓜 𝓡 code.env .C) (tables 𝓤 H 𝓜 𝓡 code.env .Λ) #f code.function (code.unfolded 𝓤 H 𝓜 𝓡)
     (meets 𝓤 H (𝓖 .A) (givenOf 𝓤 H 𝓜 𝓖) (𝓜 .mem) (𝓡 .run) (tablesOf 𝓤 H 𝓜 (tables 𝓤 H 𝓜 𝓡 code.env))
-    (cited 𝓤 H (judge-recordᶜ 𝓤 H (𝓖 .A) (𝓜 .mem) (𝓡 .run)) 𝓜 𝓡 code.env judge-record-def.name judge-record-def.routine code.calls-judge·record (judge-record-thm.met 𝓤 H 𝓜 𝓖 𝓡), (cited 𝓤 H (heldᶜ 𝓤 H (𝓖 .A) (𝓜 .mem) (𝓡 .run)) 𝓜 𝓡 code.env held-def.name held-def.routine code.calls-blocks·held (held-thm.met 𝓤 H 𝓜 𝓖 𝓡), (cited 𝓤 H (perform-recordᶜ 𝓤 H (𝓖 .A) (𝓜 .mem) (𝓡 .run)) 𝓜 𝓡 code.env perform-record-def.name perform-record-def.routine code.calls-perform·record (perform-record-thm.met 𝓤 H 𝓜 𝓖 𝓡), (cited 𝓤 H (concludeᶜ 𝓤 H (𝓖 .A) (𝓜 .mem) (𝓡 .run)) 𝓜 𝓡 code.env conclude-def.name conclude-def.routine code.calls-replica·conclude (conclude-thm.met 𝓤 H 𝓜 𝓖 𝓡), cited 𝓤 H (answerᶜ 𝓤 H (𝓖 .A) (𝓜 .mem) (𝓡 .run)) 𝓜 𝓡 code.env answer-def.name answer-def.routine code.calls-replica·answer (answer-thm.met 𝓤 H 𝓜 𝓖 𝓡))))))
+    (cited 𝓤 H (record-judgedᶜ 𝓤 H (𝓖 .A) (𝓜 .mem) (𝓡 .run)) 𝓜 𝓡 code.env record-judged-def.name record-judged-def.routine code.calls-replica·record-judged (record-judged-thm.met 𝓤 H 𝓜 𝓖 𝓡), cited 𝓤 H (record-answeredᶜ 𝓤 H (𝓖 .A) (𝓜 .mem) (𝓡 .run)) 𝓜 𝓡 code.env record-answered-def.name record-answered-def.routine code.calls-replica·record-answered (record-answered-thm.met 𝓤 H 𝓜 𝓖 𝓡)))

@@ -27,9 +27,9 @@ use Rattle.replica.proofs.Types.{Nameᴿ, Nameᴰ, Replyᴰ}
 use Rattle.replica.proofs.hydrangea_propose as hydrangea-propose
 use Rattle.replica.proofs.hydrangea_propose.Symbol as hydrangea-propose-def
 use Rattle.replica.proofs.hydrangea_propose.Met as hydrangea-propose-thm
-use Rattle.replica.proofs.refused as refused
-use Rattle.replica.proofs.refused.Symbol as refused-def
-use Rattle.replica.proofs.refused.Met as refused-thm
+use Rattle.replica.proofs.numbered as numbered
+use Rattle.replica.proofs.numbered.Symbol as numbered-def
+use Rattle.replica.proofs.numbered.Met as numbered-thm
 use Rattle.replica.proofs.propose_or.Key.{name as #f}
 use Rattle.replica.proofs.propose_or as f
 use Rattle.replica.proofs.propose_or.Statement as stated
@@ -42,12 +42,12 @@ module _ {M : Type 1} (𝓤 : URA M) (H : Heap 𝓤) (A : Atoms 𝓤) (mem : Mem
   abbrev hydrangea-proposeᶜ : Contract 𝓤
   hydrangea-proposeᶜ = tripleOf 𝓤 H A hydrangea-propose.signature (hydrangea-propose.spec 𝓤 H A mem run)
 
-  abbrev refusedᶜ : Contract 𝓤
-  refusedᶜ = tripleOf 𝓤 H A refused.signature (refused.spec 𝓤 H A mem run)
+  abbrev numberedᶜ : Contract 𝓤
+  numberedᶜ = tripleOf 𝓤 H A numbered.signature (numbered.spec 𝓤 H A mem run)
 
   -- what is known of the callees
   abbrev Known : Calls 𝓤 H → Type 1
-  Known C = Triple 𝓤 (C hydrangea-propose-def.name) hydrangea-proposeᶜ × Triple 𝓤 (C refused-def.name) refusedᶜ
+  Known C = Triple 𝓤 (C hydrangea-propose-def.name) hydrangea-proposeᶜ × Triple 𝓤 (C numbered-def.name) numberedᶜ
 
 module _ {M : Type 1} (𝓤 : URA M) (H : Heap 𝓤) (A : Atoms 𝓤) (W : Given 𝓤 H A) (mem : Memory → SProp 𝓤) (run : Routine → Fun 𝓤) (κ0 κ1 κ2 κ3 : Lft) (q0 q1 q2 q3 : Share) (cs-b cs-o : ℕ) (cs-γ : GName) (cs : Counters) (m-b m-o : ℕ) (m-γ : GName) (m : List ℕ) (ys-b ys-o : ℕ) (ys-γ : GName) (ys : List Block) (out-b out-o : ℕ) (out-γ : GName) (out : List ℕ) (name : Name) (goes : Bool) (due : ℕ)
     (m-room : Room u8 (length m)) (ys-room : Room Blockᴿ (length ys)) (out-room : Room u8 (length out)) (name-is : Is Nameᴿ name ((Nameᴰ .val name) ∷ [])) (goes-is : Is Boolean goes ((flag .val goes) ∷ [])) (due-is : Is u64 due ((word .val due) ∷ [])) where
@@ -87,8 +87,8 @@ module _ {M : Type 1} (𝓤 : URA M) (H : Heap 𝓤) (A : Atoms 𝓤) (W : Given
       -- the exit
       returns ! (look ! 40 refl) $ leave ! 8 (full _ ∷ full _ ∷ full _ ∷ full _ ∷ full _ ∷ full _ ∷ full _ ∷ full _ ∷ full _ ∷ full _ ∷ full _ ∷ full _ ∷ full _ ∷ full _ ∷ full _ ∷ full _ ∷ full _ ∷ []) refl $ keep ! (7 ∷ 5 ∷ 3 ∷ 1 ∷ 6 ∷ 4 ∷ 2 ∷ 0 ∷ []) $ ends W f.ended stayed (f.clauses 𝓤 H A mem run) y (Replyᴰ .val r0) r0 ((ws0 .0), ((ws0 .1 .0), ((ws0 .1 .1 .0), ((ws0 .1 .1 .1 .0), (tt, (tt, (tt, tt))))))) (tt, (l0-1, (l0-2, (l0-3, (tt, (tt, (tt, tt))))))) (Replyᴰ .makes 𝓤 H A W r0 _ is0) (so 𝓤 (call-made (lentTo cs m ys) out (proposeCall byList (lentTo cs m ys) out (name .bytes)) goes due (is-true goes yes0) e0)) (held (held (held (held (made (id⊢ 𝓤 _) (made (id⊢ 𝓤 _) (made (id⊢ 𝓤 _) end)))))))))))))))))
       (λ joined0 on0 no0.
-      -- call 1: `replica::refused`
-      let y1 : refusedᶜ 𝓤 H A mem run .Ghost = ((tt, tt, tt, (due, tt), ((word .val due) ∷ [], tt)), tt) in asks ! refused.ended (refused.clauses 𝓤 H A mem run) y1 0 (of W word due due-is end) refl (id⊢ 𝓤 _) $ calls-at-last ! fm (refusedᶜ 𝓤 H A mem run) (known .1) y1 (and-then ! (load ! (from ! (stop !)) (look ! 27 refl)) (no-more !)) (λ w1. came-last ! refused.ended (refused.clauses 𝓤 H A mem run) y1 w1 Replyᴰ 22 refl refl ([]) (λ r ws. r ≡ replyOf (refuses due)) (λ r ws. id⊢ 𝓤 _) (λ r1 ws1 is1 e1. on0 _ $ assigns ! (of-opd ! (load ! (from ! (stop !)) (look ! 22 refl))) (from ! (stop !)) (init ! 40 refl (fits W Replyᴰ r1 is1 .0)) $
+      -- call 1: `replica::numbered`
+      let y1 : numberedᶜ 𝓤 H A mem run .Ghost = ((tt, tt, tt, (due, tt), ((word .val due) ∷ [], tt)), tt) in asks ! numbered.ended (numbered.clauses 𝓤 H A mem run) y1 0 (of W word due due-is end) refl (id⊢ 𝓤 _) $ calls-at-last ! fm (numberedᶜ 𝓤 H A mem run) (known .1) y1 (and-then ! (load ! (from ! (stop !)) (look ! 27 refl)) (no-more !)) (λ w1. came-last ! numbered.ended (numbered.clauses 𝓤 H A mem run) y1 w1 Replyᴰ 22 refl refl ([]) (λ r ws. r ≡ replyOf (refuses due)) (λ r ws. id⊢ 𝓤 _) (λ r1 ws1 is1 e1. on0 _ $ assigns ! (of-opd ! (load ! (from ! (stop !)) (look ! 22 refl))) (from ! (stop !)) (init ! 40 refl (fits W Replyᴰ r1 is1 .0)) $
       -- the exit
       returns ! (look ! 40 refl) $ leave ! 8 (full _ ∷ full _ ∷ full _ ∷ full _ ∷ full _ ∷ full _ ∷ full _ ∷ full _ ∷ full _ ∷ full _ ∷ empty ∷ empty ∷ empty ∷ empty ∷ empty ∷ empty ∷ empty ∷ []) refl $ keep ! (7 ∷ 6 ∷ 5 ∷ 4 ∷ 3 ∷ 2 ∷ 1 ∷ 0 ∷ []) $ ends W f.ended stayed (f.clauses 𝓤 H A mem run) y (Replyᴰ .val r1) r1 (cs, (m, (ys, (out, (tt, (tt, (tt, tt))))))) (tt, (refl, (refl, (refl, (tt, (tt, (tt, tt))))))) (Replyᴰ .makes 𝓤 H A W r1 _ is1) (so 𝓤 (call-unmade cs m out ys (proposeCall byList (lentTo cs m ys) out (name .bytes)) goes due r1 (is-false goes no0) e1)) (held (held (held (held (made (id⊢ 𝓤 _) (made (id⊢ 𝓤 _) (made (id⊢ 𝓤 _) end)))))))))))))))))))))))))))
 
@@ -109,4 +109,4 @@ propose-or-spec 𝓤 H 𝓜 𝓖 𝓡 =
     entered 𝓤 H (tripleOf 𝓤 H (𝓖 .A) f.signature (f.spec 𝓤 H (𝓖 .A) (𝓜 .mem) (𝓡 .run)))
     (tables 𝓤 H 𝓜 𝓡 code.env .C) (tables 𝓤 H 𝓜 𝓡 code.env .Λ) #f code.function (code.unfolded 𝓤 H 𝓜 𝓡)
     (meets 𝓤 H (𝓖 .A) (givenOf 𝓤 H 𝓜 𝓖) (𝓜 .mem) (𝓡 .run) (tablesOf 𝓤 H 𝓜 (tables 𝓤 H 𝓜 𝓡 code.env))
-    (cited 𝓤 H (hydrangea-proposeᶜ 𝓤 H (𝓖 .A) (𝓜 .mem) (𝓡 .run)) 𝓜 𝓡 code.env hydrangea-propose-def.name hydrangea-propose-def.routine code.calls-replica·hydrangea-propose (hydrangea-propose-thm.met 𝓤 H 𝓜 𝓖 𝓡), cited 𝓤 H (refusedᶜ 𝓤 H (𝓖 .A) (𝓜 .mem) (𝓡 .run)) 𝓜 𝓡 code.env refused-def.name refused-def.routine code.calls-replica·refused (refused-thm.met 𝓤 H 𝓜 𝓖 𝓡)))
+    (cited 𝓤 H (hydrangea-proposeᶜ 𝓤 H (𝓖 .A) (𝓜 .mem) (𝓡 .run)) 𝓜 𝓡 code.env hydrangea-propose-def.name hydrangea-propose-def.routine code.calls-replica·hydrangea-propose (hydrangea-propose-thm.met 𝓤 H 𝓜 𝓖 𝓡), cited 𝓤 H (numberedᶜ 𝓤 H (𝓖 .A) (𝓜 .mem) (𝓡 .run)) 𝓜 𝓡 code.env numbered-def.name numbered-def.routine code.calls-replica·numbered (numbered-thm.met 𝓤 H 𝓜 𝓖 𝓡)))
