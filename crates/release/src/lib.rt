@@ -533,8 +533,8 @@ fn finished(out: &[u8], d: Draft, to: usize) -> Draft
     Draft { counters, at: to }
 }
 
-// Rule D, again and again. Each release takes a block out of the store, so that for k the number of held blocks is enough; a refused call has none,
-// and then nothing is asked of the memory.
+// Rule D, again and again. Each release takes a block out of the store, so that for k the number of held blocks is enough; where there is none,
+// nothing is asked of the memory.
 pub fn release_all(mem: &mut [u8], store: &mut [Block], out: &mut [u8], d: Draft, k: usize) -> Draft
     requires { ⌜ (k ≤ storeLength) × ((d .at ≤ length (now out)) × (1 ≤ k → Ready d (now mem) (now out) (releaseLength * length (take (blockCountOf (now mem)) (now store))))) ⌝ }
     ensures { λ r. ⌜ left r (now (mem .exit)) (now (out .exit)) (now (store .exit))
