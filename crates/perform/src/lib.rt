@@ -65,7 +65,7 @@ fn with_found(number: u64, found: Found, under: Found) -> Judged
     }
 }
 
-// A record, of which `judge` wanted these two blocks.
+// The judgement of a record, of which `judge` wanted these two blocks.
 pub fn late_record(rec: &[u8], want: Want, found: Found, under: Found) -> Judged
     requires { ⌜ (want .refusal ≡ 0 → badLength (now rec) ≡ false) ⌝ }
     ensures { λ r. ⌜ r ≡ judgedBy (orElse (want .refusal) (firstOf (lateRules want found under (content (now (rec .entry)))))) found under ⌝ }
@@ -76,7 +76,7 @@ pub fn late_record(rec: &[u8], want: Want, found: Found, under: Found) -> Judged
     with_found(record_chain(rec, want, found, under), found, under)
 }
 
-// Propose a name, of which `judge` wanted these two blocks.
+// The judgement of a name to propose, of which `judge` wanted these two blocks.
 pub fn late_propose(want: Want, found: Found, under: Found) -> Judged
     ensures { λ r. ⌜ r ≡ judgedBy (orElse (want .refusal) (firstOf (latePropose want found under))) found under ⌝ }
 {
@@ -100,7 +100,7 @@ fn finish(mem: &mut [u8], out: &mut [u8], d: Draft, place: usize, block: Block) 
     }
 }
 
-// The timer of a view.
+// The timer of a view, which was accepted.
 pub fn timer(c: Counters, mem: &mut [u8], out: &mut [u8], view: View) -> Done
     requires { ⌜ Lent (Accepted (timerNumber (length (now out)) (view .0)) Always) (lent c (now mem)) ⌝ }
     ensures { λ r. ⌜ Completes (onTimer (view .0)) Always c (now (mem .entry)) (now (out .entry)) r (now (mem .exit)) (now (out .exit)) ⌝ }
@@ -109,7 +109,7 @@ pub fn timer(c: Counters, mem: &mut [u8], out: &mut [u8], view: View) -> Done
     finish(mem, out, e.draft, e.place, e.block)
 }
 
-// Propose a name, on a block of that height.
+// A name to propose, which was accepted, on a block of that height.
 pub fn propose(c: Counters, mem: &mut [u8], out: &mut [u8], name: [u8; 32], below: Height) -> Done
     requires { ⌜ Lent (Accepted (proposeNumber (length (now out)) name) (Proposable name (below .0))) (lent c (now mem)) ⌝ }
     ensures { λ r. ⌜ Completes (onPropose name) (Proposable name (below .0)) c (now (mem .entry)) (now (out .entry)) r (now (mem .exit)) (now (out .exit)) ⌝ }
@@ -118,7 +118,7 @@ pub fn propose(c: Counters, mem: &mut [u8], out: &mut [u8], name: [u8; 32], belo
     finish(mem, out, e.draft, e.place, e.block)
 }
 
-// A record; whether its block is held.
+// A record, which was accepted, and whether its block is held already.
 pub fn record(c: Counters, mem: &mut [u8], out: &mut [u8], rec: &[u8], held: bool) -> Done
     requires { ⌜ Lent (Accepted (recordNumber (length (now out)) (now rec)) (Asked (now rec) held)) (lent c (now mem)) ⌝ }
     ensures { λ r. ⌜ Completes (onRecord (now (rec .entry)) (content (now (rec .entry)))) (Asked (now (rec .entry)) held) c (now (mem .entry)) (now (out .entry)) r (now (mem .exit)) (now (out .exit)) ⌝ }

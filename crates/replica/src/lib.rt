@@ -75,6 +75,7 @@ fn numbered(number: u64) -> Reply
     }
 }
 
+// The reply of a call that was accepted.
 fn accepted(written: usize) -> Reply
     ensures { λ r. ⌜ r ≡ replyOf (accepts written) ⌝ }
 {
@@ -119,7 +120,7 @@ fn record_judged(
     late_record(rec, want, found, under)
 }
 
-// A record that is accepted; whether its block is held.
+// A record that is accepted, and whether its block is held already.
 fn record_taken(
     counters: &mut Counters,
     mem: &mut [u8],
@@ -322,7 +323,7 @@ fn propose_judged(
     late_propose(want, found, under)
 }
 
-// A propose that is accepted; the height of the block below.
+// A propose that is accepted, and the height of the block below.
 fn propose_taken(
     counters: &mut Counters,
     mem: &mut [u8],
