@@ -4,7 +4,7 @@
     'types': {'settings': 'blocks'},
     'about': 'It calls itself: the method of `mutual-elim`, at the turns that are left.',
     'params': ['m', 'ys', 'out', 'p'],
-    'requires': '{p} .goes ≡ true → Ready (draftAt {p}) {m} {out} (releaseLength * length (take (blockCountOf {m}) {ys}))',
+    'requires': 'Ready (draftAt {p}) {m} {out} (releaseLength * length (take (blockCountOf {m}) {ys}))',
     'measure': 'p',
     'weight': 'turnsLeft',
     'callees': {
@@ -12,7 +12,7 @@
         'release::turns': {'req': 'yes', 'ens': 'Ends {3} {0} {2} {1} r {w0} {w2} {w1}'},
     },
     'falls': ['(omega (arith, e0 .count (is-true (r0 .goes) yes0)))'],
-    'asks': ['asked', '(e0 .ready)'],
+    'asks': ['asked', '(e0 .ready (is-true (r0 .goes) yes0))'],
     'says': [
         '(ends-on p m out ys r0 _ _ _ e0 (is-true (r0 .goes) yes0) r1 _ _ _ e1)',
         '(ends-off p m out ys r0 _ _ _ e0 (is-false (r0 .goes) no0))',

@@ -137,11 +137,22 @@ pub fn voting(c: Counters, vote: Vote) -> Counters
     next
 }
 
-// A released block becomes the tip.
+// A released block becomes the tip. Field by field: every accepted call ends with this, and a copy of the whole with a new tip in it is made by memcpy, of which the
+// next copy has to wait for (docs/PERFORMANCE.md).
 pub fn releasing(c: Counters, tip: Block) -> Counters
     ensures { λ r. ⌜ r ≡ releasing c tip ⌝ }
 {
-    let mut next = c;
-    next.tip = tip;
-    next
+    let view = c.view;
+    let timed = c.timed;
+    let high = c.high;
+    let lock = c.lock;
+    let weak = c.weak;
+    Counters {
+        view,
+        timed,
+        high,
+        lock,
+        weak,
+        tip,
+    }
 }

@@ -30,7 +30,7 @@ use Rattle.protocol.proofs.call.Output.{lowest-is}
 use Rattle.act.specs.declared.Draft.{Draft}
 use Rattle.act.specs.Draft.{workOf, Left, left, leftBy, Ready}
 use Rattle.release.specs.Search.{standing, knownBy, noTarget, target, targetOf, lowestTarget}
-use Rattle.release.specs.Released.{recordsOf, Releases, Released, ReleasedIf, firstTurn, allowedOf, nextTurn, draftAt, Told, Turned, Ends, finishedOf}
+use Rattle.release.specs.Released.{recordsOf, Releases, Released, ReleasedIf, firstTurn, allowedOf, nextTurn, draftAt, Told, Turned, Ends, EndsIf, finishedOf}
 use Rattle.release.specs.declared.Target.{Target}
 use Rattle.release.specs.declared.Turn.{Turn}
 use Rattle.release.proofs.Search.{pair-bare, target-standing}
@@ -218,53 +218,36 @@ module _ (r : Turn) (m o : List ℕ) (s : List Block) where
               room = omega (arith, R .room, fewer, done .place, ap length held-is, ap length (done .output), length-patch o (r .at) (recordsOf (r .tip) (r .at) t m o s));
             }
 
-        it-turned : r .goes ≡ true → Proper (t .block) → Turned r m o s (record { goes = true; view = r .view; tip = t .block; at = at; left = r .left - 1 }) m₁ o₁ s₁
-        it-turned goes P =
+        it-turned : Proper (t .block) → Turned r m o s (record { goes = true; view = r .view; tip = t .block; at = at; left = r .left - 1 }) m₁ o₁ s₁
+        it-turned P =
             let D : ruleD W₀ ≡ W₁ =
             runs W₀ (both .0) ∙ ap (λ (z : View). release (z .0) (lowestTarget W₀ .block) W₀) (sym view-is) ∙ ap (λ (z : Block). release (t .view .0) z W₀) (sym block-is) in
             record {
-              before = λ _. goes;
               count = λ _. omega (arith, turns-left);
               on = λ _. leaves ∙ ap (λ (X : Work). leftBy X o) (sym D);
               ready = λ _. ready-next;
-              off = λ _ f. absurd (true≢false f);
+              off = λ f. absurd (true≢false f);
               told = λ from old T. rw (done .place, done .output) (tells o (r .at) (ownOf m) (t .view .0) (r .tip) (take (blockCountOf m) s) (t .block) P (down .0) (done .size) (may-release .room) from old T);
-              rest = λ f. absurd (true≢false (sym goes ∙ f));
             }
 
-    it-rests : t .is ≡ false → r .goes ≡ true → Turned r m o s (record { goes = false; view = r .view; tip = r .tip; at = r .at; left = r .left }) m o s
-    it-rests h goes =
+    it-rests : t .is ≡ false → Turned r m o s (record { goes = false; view = r .view; tip = r .tip; at = r .at; left = r .left }) m o s
+    it-rests h =
         let none : again (r .left) W₀ ≡ W₀ = again-over (r .left) W₀ (sym is-allowed ∙ h) in
         record {
-          before = λ f. absurd (false≢true f);
           count = λ f. absurd (false≢true f);
           on = λ f. absurd (false≢true f);
           ready = λ f. absurd (false≢true f);
-          off = λ _ _. rw none (left-same d m o s (omega (arith, R .room)));
+          off = λ _. rw none (left-same d m o s (omega (arith, R .room)));
           told = λ from old T. T;
-          rest = λ f. absurd (true≢false (sym goes ∙ f));
         }
 
     -- as the code takes it
-    pub turned : r .goes ≡ true → (at : ℕ) (m₁ o₁ : List ℕ) (s₁ : List Block) (q : Turn) → Proper (t .block) → ReleasedIf (r .tip) (r .at) t m o s at m₁ o₁ s₁ → q ≡ nextTurn r t at → Turned r m o s q m₁ o₁ s₁
-    turned goes at m₁ o₁ s₁ q P done e₁ = go (t .is) refl
+    pub turned : (at : ℕ) (m₁ o₁ : List ℕ) (s₁ : List Block) (q : Turn) → Proper (t .block) → ReleasedIf (r .tip) (r .at) t m o s at m₁ o₁ s₁ → q ≡ nextTurn r t at → Turned r m o s q m₁ o₁ s₁
+    turned at m₁ o₁ s₁ q P done e₁ = go (t .is) refl
       where
         go : (i : Bool) → t .is ≡ i → Turned r m o s q m₁ o₁ s₁
-        go true h = rw (e₁, h) (it-turned h at m₁ o₁ s₁ (done .yes h) goes P)
-        go false h = let n = done .no h in rw (e₁, h, n .0, n .1 .0, n .1 .1 .0, n .1 .1 .1) (it-rests h goes)
-
-  -- the last turn released nothing, and this one does nothing
-  pub not-turned : r .goes ≡ false → Turned r m o s r m o s
-  not-turned h =
-      record {
-        before = λ g. g;
-        count = λ g. absurd (true≢false (sym g ∙ h));
-        on = λ g. absurd (true≢false (sym g ∙ h));
-        ready = λ g. absurd (true≢false (sym g ∙ h));
-        off = λ g _. absurd (true≢false (sym g ∙ h));
-        told = λ from old T. T;
-        rest = λ _. (refl, (refl, (refl, refl)));
-      }
+        go true h = rw (e₁, h) (it-turned h at m₁ o₁ s₁ (done .yes h) P)
+        go false h = let n = done .no h in rw (e₁, h, n .0, n .1 .0, n .1 .1 .0, n .1 .1 .1) (it-rests h)
 
 -- a turn, and then the others, if it released something
 module _ (r : Turn) (m o : List ℕ) (s : List Block) (q : Turn) (m₁ o₁ : List ℕ) (s₁ : List Block) (A : Turned r m o s q m₁ o₁ s₁) where
@@ -283,24 +266,29 @@ module _ (r : Turn) (m o : List ℕ) (s : List Block) (q : Turn) (m₁ o₁ : Li
     pub ends-on : (to : ℕ) (m₂ o₂ : List ℕ) (s₂ : List Block) → Ends q m₁ o₁ s₁ to m₂ o₂ s₂ → Ends r m o s to m₂ o₂ s₂
     ends-on to m₂ o₂ s₂ E =
         record {
-          on =
-              λ _.
+          leaves =
               ap (λ (X : Work). left (record { counters = X .counters; at = to }) m₂ o₂ s₂) (sym same)
-              ∙ E .on g
+              ∙ E .leaves
               ∙ ap (λ (X : Work). leftBy X o₁) same
               ∙ ap (leftBy (again (r .left) W)) (ap (λ (z : Left). z .output) (A .on g))
               ∙ left-over (ruleD W) (again (r .left) W) o grows;
-          told = λ _ from old T. rw (← same) (E .told g from old (A .told from old T));
-          rest = λ f. absurd (true≢false (sym (A .before g) ∙ f));
+          told = λ from old T. rw (← same) (E .told from old (A .told from old T));
         }
 
   pub ends-off : q .goes ≡ false → Ends r m o s (q .at) m₁ o₁ s₁
   ends-off g =
+      let l = A .off g in
       record {
-        on = λ h. let l = A .off h g in ap (λ (c : Counters). left (record { counters = c; at = q .at }) m₁ o₁ s₁) (sym (ap (λ (z : Left). z .counters) l)) ∙ l;
-        told = λ h from old T. let e : q .tip ≡ again (r .left) W .counters .tip = ap (λ (z : Left). z .counters .tip) (A .off h g) in rw (← e) (A .told from old T);
-        rest = A .rest;
+        leaves = ap (λ (c : Counters). left (record { counters = c; at = q .at }) m₁ o₁ s₁) (sym (ap (λ (z : Left). z .counters) l)) ∙ l;
+        told = λ from old T. let e : q .tip ≡ again (r .left) W .counters .tip = ap (λ (z : Left). z .counters .tip) l in rw (← e) (A .told from old T);
       }
+
+-- from the first turn on, if there is one
+pub ends-yes : (r : Turn) (m o : List ℕ) (s : List Block) (to : ℕ) (m₁ o₁ : List ℕ) (s₁ : List Block) → r .goes ≡ true → Ends r m o s to m₁ o₁ s₁ → EndsIf r m o s to m₁ o₁ s₁
+ends-yes r m o s to m₁ o₁ s₁ h E = record { yes = λ _. E; no = λ f. absurd (true≢false (sym h ∙ f)) }
+
+pub ends-no : (r : Turn) (m o : List ℕ) (s : List Block) → r .goes ≡ false → EndsIf r m o s (r .at) m o s
+ends-no r m o s h = record { yes = λ t. absurd (true≢false (sym t ∙ h)); no = λ _. (refl, (refl, (refl, refl))) }
 
 -- ---- OTHER COUNTERS OF THE SAME VIEW AND TIP
 abbrev with : Counters → Work → Work
@@ -341,8 +329,8 @@ module _ (d : Draft) (m o : List ℕ) (s : List Block) (k : ℕ) (first : Turn) 
       let R = asked (ltb-true 0 k (sym (ap (λ (z : Turn). z .goes) e₀) ∙ goes)) in
       rw e₀ (record { long = R .long; regular = regular-same (workOf d m o []) (workOf d° m o []) refl refl (R .regular); room = R .room })
 
-  module _ (within : d .at ≤ length o) (to : ℕ) (m₁ o₁ : List ℕ) (s₁ : List Block) (E₀ : Ends first m o s to m₁ o₁ s₁) where
-    E : Ends (firstTurn d k) m o s to m₁ o₁ s₁
+  module _ (within : d .at ≤ length o) (to : ℕ) (m₁ o₁ : List ℕ) (s₁ : List Block) (E₀ : EndsIf first m o s to m₁ o₁ s₁) where
+    E : EndsIf (firstTurn d k) m o s to m₁ o₁ s₁
     E = rw (← e₀) E₀
 
     abbrev X : Work
@@ -353,8 +341,8 @@ module _ (d : Draft) (m o : List ℕ) (s : List Block) (k : ℕ) (first : Turn) 
     all-left = go (ltb 0 k) refl
       where
         go : (g : Bool) → ltb 0 k ≡ g → left (record { counters = X .counters; at = to }) m₁ o₁ s₁ ≡ leftBy X o
-        go true h = E .on h
-        go false h = let same = E .rest h in let none : X ≡ workOf d° m o s = again-none k (workOf d° m o s) (ltb-false 0 k h) in rw (none, same .0, same .1 .0, same .1 .1 .0, same .1 .1 .1) (left-same d° m o s within)
+        go true h = E .yes h .leaves
+        go false h = let same = E .no h in let none : X ≡ workOf d° m o s = again-none k (workOf d° m o s) (ltb-false 0 k h) in rw (none, same .0, same .1 .0, same .1 .1 .0, same .1 .1 .1) (left-same d° m o s within)
 
     tip-told : Told o₁ (d .at) to (d .counters .tip) (X .counters .tip)
     tip-told = go (ltb 0 k) refl
@@ -363,8 +351,8 @@ module _ (d : Draft) (m o : List ℕ) (s : List Block) (k : ℕ) (first : Turn) 
         start = tells-none o (d .at) (d .counters .tip)
 
         go : (g : Bool) → ltb 0 k ≡ g → Told o₁ (d .at) to (d .counters .tip) (X .counters .tip)
-        go true h = E .told h (d .at) (d .counters .tip) start
-        go false h = let same = E .rest h in let none : X ≡ workOf d° m o s = again-none k (workOf d° m o s) (ltb-false 0 k h) in rw (none, same .0, same .1 .1 .0) start
+        go true h = E .yes h .told (d .at) (d .counters .tip) start
+        go false h = let same = E .no h in let none : X ≡ workOf d° m o s = again-none k (workOf d° m o s) (ltb-false 0 k h) in rw (none, same .0, same .1 .1 .0) start
 
     pub may-finish : (to ≤ length o₁) × ((d .at < to → d .at + 56 ≤ to) × (d .at + 56 < to → d .at + 112 ≤ to))
     may-finish =

@@ -82,21 +82,23 @@ pub record Told (o : List ℕ) (from to : ℕ) (old tip : Block) : Type 0 where
   pub place : to ≡ from + releaseLength * count
   pub is : lastReleased o from to old ≡ tip
 
--- ONE TURN from r on, unless the last one released nothing: it released something, and this is ready for the next; or nothing is left to release or no turn is left
+-- ONE TURN from r on: it released something, and this is ready for the next; or nothing is left to release or no turn is left
 pub record Turned (r : Turn) (m o : List ℕ) (s : List Block) (q : Turn) (m′ o′ : List ℕ) (s′ : List Block) : Type 0 where
-  pub before : q .goes ≡ true → r .goes ≡ true
   pub count : q .goes ≡ true → r .left ≡ suc (q .left)
   pub on : q .goes ≡ true → left (draftAt q) m′ o′ s′ ≡ leftBy (ruleD (workOf (draftAt r) m o s)) o
   pub ready : q .goes ≡ true → Ready (draftAt q) m′ o′ (releaseLength * length (take (blockCountOf m′) s′))
-  pub off : r .goes ≡ true → q .goes ≡ false → left (draftAt q) m′ o′ s′ ≡ leftBy (again (r .left) (workOf (draftAt r) m o s)) o
+  pub off : q .goes ≡ false → left (draftAt q) m′ o′ s′ ≡ leftBy (again (r .left) (workOf (draftAt r) m o s)) o
   pub told : (from : ℕ) (old : Block) → Told o from (r .at) old (r .tip) → Told o′ from (q .at) old (q .tip)
-  pub rest : r .goes ≡ false → (q .at ≡ r .at) × ((m′ ≡ m) × ((o′ ≡ o) × (s′ ≡ s)))
 
 -- ALL TURNS from r on, and what they leave; the tip stands in what they wrote
 pub record Ends (r : Turn) (m o : List ℕ) (s : List Block) (to : ℕ) (m′ o′ : List ℕ) (s′ : List Block) : Type 0 where
-  pub on : r .goes ≡ true → left (record { counters = again (r .left) (workOf (draftAt r) m o s) .counters; at = to }) m′ o′ s′ ≡ leftBy (again (r .left) (workOf (draftAt r) m o s)) o
-  pub told : r .goes ≡ true → (from : ℕ) (old : Block) → Told o from (r .at) old (r .tip) → Told o′ from to old (again (r .left) (workOf (draftAt r) m o s) .counters .tip)
-  pub rest : r .goes ≡ false → (to ≡ r .at) × ((m′ ≡ m) × ((o′ ≡ o) × (s′ ≡ s)))
+  pub leaves : left (record { counters = again (r .left) (workOf (draftAt r) m o s) .counters; at = to }) m′ o′ s′ ≡ leftBy (again (r .left) (workOf (draftAt r) m o s)) o
+  pub told : (from : ℕ) (old : Block) → Told o from (r .at) old (r .tip) → Told o′ from to old (again (r .left) (workOf (draftAt r) m o s) .counters .tip)
+
+-- the same from the first turn on, if there is one
+pub record EndsIf (r : Turn) (m o : List ℕ) (s : List Block) (to : ℕ) (m′ o′ : List ℕ) (s′ : List Block) : Type 0 where
+  pub yes : r .goes ≡ true → Ends r m o s to m′ o′ s′
+  pub no : r .goes ≡ false → (to ≡ r .at) × ((m′ ≡ m) × ((o′ ≡ o) × (s′ ≡ s)))
 
 -- so many turns are left at most: it falls with each
 abbrev pub turnsLeft : Turn → ℕ

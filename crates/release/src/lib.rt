@@ -32,7 +32,7 @@ ghost use Rattle.memory.specs.Decided.{tooFew};
 ghost use Rattle.protocol.specs.Refusals.{storeLength, regular};
 ghost use Rattle.protocol.specs.Rules.{again};
 ghost use Rattle.act.specs.Draft.{workOf, left, leftBy, Ready};
-ghost use Rattle.release.specs.Released.{Releases, Released, ReleasedIf, firstTurn, allowedOf, nextTurn, draftAt, Turned, Ends, lastReleased, finishedOf};
+ghost use Rattle.release.specs.Released.{Releases, Released, ReleasedIf, firstTurn, allowedOf, nextTurn, draftAt, Turned, Ends, EndsIf, lastReleased, finishedOf};
 ghost use Rattle.release.specs.Search.{standing, knownBy, seen, noTarget, firstPlace, lookOf, nextView, nextName, stepOf, viewsAfter, targetFrom, lowestTarget, quorumsOf, atNextView, passed};
 
 // Where the search stands: at a view, above a name or at its first; how many views come after it, and how many of its names are still tried.
@@ -319,17 +319,6 @@ pub fn lowest_target(mem: &[u8], store: &[Block], view: View, tip: Block) -> Tar
     target_from(mem, store, tip, p)
 }
 
-fn target_if(mem: &[u8], store: &[Block], go: bool, view: View, tip: Block) -> Target
-    requires { ⌜ (go ≡ true → (memoryLength ≤ length (now mem)) × (regular (standing (knownBy view tip) (now mem) (now store)) ≡ true)) ⌝ }
-    ensures { λ r. ⌜ r ≡ cond go (lowestTarget (standing (knownBy view tip) (now (mem .entry)) (now (store .entry)))) noTarget ⌝ }
-{
-    if go {
-        lowest_target(mem, store, view, tip)
-    } else {
-        no_target()
-    }
-}
-
 fn put_count(mem: &mut [u8], k: usize)
     requires { ⌜ (memoryLength ≤ length (now mem)) × (k < 2 ^ 16) ⌝ }
     ensures { λ _. ⌜ now (mem .exit) ≡ withBlockCount (now (mem .entry)) k ⌝ }
@@ -442,12 +431,6 @@ fn next_turn(r: Turn, t: Target, at: usize) -> Turn
     }
 }
 
-fn goes_of(r: Turn) -> bool
-    ensures { λ s. ⌜ s ≡ r .goes ⌝ }
-{
-    r.goes
-}
-
 fn tip_of(r: Turn) -> Block
     ensures { λ s. ⌜ s ≡ r .tip ⌝ }
 {
@@ -466,16 +449,15 @@ fn at_of(r: Turn) -> usize
     r.at
 }
 
-// Rule D once, if something is left to release and turns are left; after a turn that released nothing, nothing is looked for.
+// Rule D once.
 fn one_turn(mem: &mut [u8], store: &mut [Block], out: &mut [u8], r: Turn) -> Turn
-    requires { ⌜ (r .goes ≡ true → Ready (draftAt r) (now mem) (now out) (releaseLength * length (take (blockCountOf (now mem)) (now store)))) ⌝ }
+    requires { ⌜ Ready (draftAt r) (now mem) (now out) (releaseLength * length (take (blockCountOf (now mem)) (now store))) ⌝ }
     ensures { λ q. ⌜ Turned r (now (mem .entry)) (now (out .entry)) (now (store .entry)) q (now (mem .exit)) (now (out .exit)) (now (store .exit)) ⌝ }
 {
-    let go = goes_of(r);
     let v = view_of(r);
     let tip = tip_of(r);
     let at = at_of(r);
-    let low = target_if(mem, store, go, v, tip);
+    let low = lowest_target(mem, store, v, tip);
     let t = allowed(low, r);
     let to = release_if(mem, store, out, tip, at, t);
     next_turn(r, t, to)
@@ -484,7 +466,7 @@ fn one_turn(mem: &mut [u8], store: &mut [Block], out: &mut [u8], r: Turn) -> Tur
 // Rule D until a turn releases nothing or none is left: the place behind what is written. Its result is a number, since an `if` over three lent regions with
 // a struct as result is over the step limit of the check; the tip is read off what was written.
 fn turns(mem: &mut [u8], store: &mut [Block], out: &mut [u8], r: Turn) -> usize
-    requires { ⌜ (r .goes ≡ true → Ready (draftAt r) (now mem) (now out) (releaseLength * length (take (blockCountOf (now mem)) (now store)))) ⌝ }
+    requires { ⌜ Ready (draftAt r) (now mem) (now out) (releaseLength * length (take (blockCountOf (now mem)) (now store))) ⌝ }
     ensures { λ to. ⌜ Ends r (now (mem .entry)) (now (out .entry)) (now (store .entry)) to (now (mem .exit)) (now (out .exit)) (now (store .exit)) ⌝ }
 {
     let q = one_turn(mem, store, out, r);
@@ -492,6 +474,18 @@ fn turns(mem: &mut [u8], store: &mut [Block], out: &mut [u8], r: Turn) -> usize
         turns(mem, store, out, q)
     } else {
         q.at
+    }
+}
+
+// The same from the first turn on, if there is one.
+fn turns_if(mem: &mut [u8], store: &mut [Block], out: &mut [u8], r: Turn) -> usize
+    requires { ⌜ (r .goes ≡ true → Ready (draftAt r) (now mem) (now out) (releaseLength * length (take (blockCountOf (now mem)) (now store)))) ⌝ }
+    ensures { λ to. ⌜ EndsIf r (now (mem .entry)) (now (out .entry)) (now (store .entry)) to (now (mem .exit)) (now (out .exit)) (now (store .exit)) ⌝ }
+{
+    if r.goes {
+        turns(mem, store, out, r)
+    } else {
+        r.at
     }
 }
 
@@ -541,6 +535,6 @@ pub fn release_all(mem: &mut [u8], store: &mut [Block], out: &mut [u8], d: Draft
         ≡ leftBy (again k (workOf d (now (mem .entry)) (now (out .entry)) (now (store .entry)))) (now (out .entry)) ⌝ }
 {
     let first = first_turn(d, k);
-    let to = turns(mem, store, out, first);
+    let to = turns_if(mem, store, out, first);
     finished(out, d, to)
 }
