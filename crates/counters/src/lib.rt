@@ -137,8 +137,8 @@ pub fn voting(c: Counters, vote: Vote) -> Counters
     next
 }
 
-// A released block becomes the tip. Field by field: every accepted call ends with this, and a copy of the whole with a new tip in it is made by memcpy, of which the
-// next copy has to wait for (docs/PERFORMANCE.md).
+// A released block becomes the tip. Every accepted call ends with this: put together field by field it costs less than a copy of the whole with another tip
+// (docs/PERFORMANCE.md, "Where the time goes").
 pub fn releasing(c: Counters, tip: Block) -> Counters
     ensures { λ r. ⌜ r ≡ releasing c tip ⌝ }
 {

@@ -10,7 +10,7 @@ use oracle::{block_name, wire, Block, Certificate, Faults, Height, Settings, Tim
 use replica::raw;
 use streams::{Call, DecisiveCall, DecisiveStream, NameCall, NameStream};
 
-/// What a call may take. Measured: 373,064 bytes where rule D passes over 263 decided names that aren't held.
+/// What a call may take. Measured: 373,048 bytes where rule D passes over 263 decided names that aren't held.
 const BOUND: usize = 384 * 1024;
 /// What the call that names the decisive timeout may take. Measured: 4,296 bytes.
 const BOUND_OF_DECISIVE: usize = 8 * 1024;
