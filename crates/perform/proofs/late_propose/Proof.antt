@@ -1,12 +1,7 @@
 use Rattle.perform.proofs.Deciding.{judged-early, judged-late}
 use borrow.Author.Needs.{needs}
-use native.Mathlib.Omega.{arith}
 use Rattle.perform.proofs.late_propose.Statement.{statement}
 use Rattle.perform.proofs.late_propose.Tie as tie
-use Rattle.perform.proofs.late_propose.Reads as reads
-use Rattle.perform.proofs.late_propose.Lts as lts
-use Rattle.judge.proofs.chain.propose_chain.Reads as propose-chain-reads
-use Rattle.perform.proofs.with_found.Reads as with-found-reads
 
 with-found-requires : tie.Need-with-found-requires
 with-found-requires c κs = search needs

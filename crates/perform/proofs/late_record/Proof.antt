@@ -1,12 +1,7 @@
 use Rattle.perform.proofs.Deciding.{judged-early, judged-late}
 use borrow.Author.Needs.{needs}
-use native.Mathlib.Omega.{arith}
 use Rattle.perform.proofs.late_record.Statement.{statement}
 use Rattle.perform.proofs.late_record.Tie as tie
-use Rattle.perform.proofs.late_record.Reads as reads
-use Rattle.perform.proofs.late_record.Lts as lts
-use Rattle.judge.proofs.chain.record_chain.Reads as record-chain-reads
-use Rattle.perform.proofs.with_found.Reads as with-found-reads
 
 with-found-requires : tie.Need-with-found-requires
 with-found-requires c κs = search needs

@@ -5,13 +5,8 @@ use Rattle.perform.specs.Perform.{fresh}
 use Rattle.perform.proofs.Completing.{completes}
 use Rattle.perform.proofs.Deciding.{propose-passes, propose-asks, propose-ready}
 use borrow.Author.Needs.{needs}
-use native.Mathlib.Omega.{arith}
 use Rattle.perform.proofs.propose.Statement.{statement}
 use Rattle.perform.proofs.propose.Tie as tie
-use Rattle.perform.proofs.propose.Reads as reads
-use Rattle.perform.proofs.propose.Lts as lts
-use Rattle.event.proofs.host.on_propose.Reads as on-propose-reads
-use Rattle.perform.proofs.finish.Reads as finish-reads
 
 on-propose-requires : tie.Need-on-propose-requires
 on-propose-requires c κs = propose-asks (fresh (c .before .before .before .before .args .c)) _ _ (c .before .before .before .before .args .name) (c .before .before .before .before .args .below .0) (propose-passes (c .before .before .before .before .args .c) _ _ (c .before .before .before .before .args .name) (c .before .before .before .before .args .below .0) (c .before .before .before .before .pre)) (c .before .before .before .before .pre)

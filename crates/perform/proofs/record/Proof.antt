@@ -4,13 +4,8 @@ use Rattle.perform.specs.Perform.{fresh}
 use Rattle.perform.proofs.Completing.{completes}
 use Rattle.perform.proofs.Deciding.{record-passes, record-asks, record-ready}
 use borrow.Author.Needs.{needs}
-use native.Mathlib.Omega.{arith}
 use Rattle.perform.proofs.record.Statement.{statement}
 use Rattle.perform.proofs.record.Tie as tie
-use Rattle.perform.proofs.record.Reads as reads
-use Rattle.perform.proofs.record.Lts as lts
-use Rattle.event.proofs.record.on_record.Reads as on-record-reads
-use Rattle.perform.proofs.finish.Reads as finish-reads
 
 on-record-requires : tie.Need-on-record-requires
 on-record-requires c κs = record-asks (fresh (c .before .before .before .before .before .args .c)) _ _ _ (c .before .before .before .before .before .args .held) (record-passes (c .before .before .before .before .before .args .c) _ _ _ (c .before .before .before .before .before .args .held) (c .before .before .before .before .before .pre)) (c .before .before .before .before .before .pre) (λ j. c .before .before .shared-slice-known .given j .fits)

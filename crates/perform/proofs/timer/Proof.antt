@@ -8,10 +8,6 @@ use borrow.Author.Needs.{needs}
 use native.Mathlib.Omega.{arith}
 use Rattle.perform.proofs.timer.Statement.{statement}
 use Rattle.perform.proofs.timer.Tie as tie
-use Rattle.perform.proofs.timer.Reads as reads
-use Rattle.perform.proofs.timer.Lts as lts
-use Rattle.event.proofs.host.on_timer.Reads as on-timer-reads
-use Rattle.perform.proofs.finish.Reads as finish-reads
 
 on-timer-requires : tie.Need-on-timer-requires
 on-timer-requires c κs = ready-less _ _ _ _ _ (omega arith) (timer-passed (c .before .before .before .before .args .c) _ _ (c .before .before .before .before .args .view .0) (c .before .before .before .before .pre))
