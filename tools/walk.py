@@ -871,7 +871,12 @@ unfolding code.{dashed}-routine tablesOf
     if 'factI' in words: uses.append('use contract.Monad.{factI}')
     if 'rep' in words: uses.append('use types.Part.{rep}')
     if 'replicate' in words: uses.append('use lib.ListN.{replicate, length-replicate}')
-    for m, ns in d.get('spec', {}).items(): uses.append(f'use {m}.{{{", ".join(ns)}}}')
+    def used(n):
+        n = n.split(' as ')[-1]
+        return n in words or (n.startswith('_') and n.strip('_') in words)
+    for m, ns in d.get('spec', {}).items():
+        ns = [n for n in dict.fromkeys(ns) if used(n)]
+        if ns: uses.append(f'use {m}.{{{", ".join(ns)}}}')
     for q in T.used:
         n = q.split('::')[1]
         if n in words: uses.append(f'use {dec(q)}.{{{n}}}')

@@ -10,7 +10,7 @@ use Rattle.wire.specs.Fields.{releaseLength}
 use Rattle.memory.specs.Layout.{blockCountOf}
 use Rattle.act.specs.Draft.{Ready}
 use Rattle.release.specs.Search.{standing, knownBy, lowestTarget}
-use Rattle.release.specs.Released.{ReleasedIf, allowedOf, nextTurn, draftAt, Turned}
+use Rattle.release.specs.Released.{ReleasedIf, allowedOf, nextTurn, draftAt}
 use Rattle.release.proofs.Types.{Target-block}
 use Rattle.release.proofs.WrittenTip.{proper}
 use Rattle.release.proofs.Turning.{search-asks, if-asks, turn-asks, turn-is}

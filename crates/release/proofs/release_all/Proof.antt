@@ -10,7 +10,7 @@ use Rattle.wire.specs.Fields.{releaseLength}
 use Rattle.memory.specs.Layout.{blockCountOf}
 use Rattle.act.specs.Draft.{Ready}
 use Rattle.protocol.specs.Refusals.{storeLength}
-use Rattle.release.specs.Released.{firstTurn, EndsIf, draftAt, finishedOf}
+use Rattle.release.specs.Released.{firstTurn, EndsIf, finishedOf}
 use Rattle.release.proofs.Releasing.{ready-first, may-finish, finishes}
 use Rattle.blocks.specs.declared.Block.{Block}
 use Rattle.act.specs.declared.Draft.{Draft}

@@ -11,7 +11,7 @@ use Rattle.wire.specs.Fields.{releaseLength}
 use Rattle.memory.specs.Layout.{blockCountOf}
 use Rattle.blocks.proofs.Ancestry.{is-true, is-false}
 use Rattle.act.specs.Draft.{Ready}
-use Rattle.release.specs.Released.{draftAt, Ends, EndsIf}
+use Rattle.release.specs.Released.{draftAt, Ends}
 use Rattle.release.proofs.Releasing.{ends-yes, ends-no}
 use Rattle.blocks.specs.declared.Block.{Block}
 use Rattle.release.specs.declared.Turn.{Turn}

@@ -10,7 +10,7 @@ use Rattle.blocks.specs.declared.Block.{Block}
 use Rattle.protocol.specs.Calls.{openingCall}
 use Rattle.settings.specs.Answer.{refuses}
 use Rattle.replica.specs.Openings.{openedOutcome}
-use Rattle.replica.specs.Reply.{replyOf, lentTo, replied, repliedBy}
+use Rattle.replica.specs.Reply.{replyOf, lentTo}
 use Rattle.replica.proofs.Openings.{opening-is}
 use Rattle.counters.specs.declared.Counters.{Counters}
 use Rattle.blocks.specs.declared.Block.{Block}

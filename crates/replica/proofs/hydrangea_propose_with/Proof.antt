@@ -9,13 +9,13 @@ use Rattle.walks.proofs.Local.{pointing, lend-ref, back-ref}
 use mathlib.Core.Bool.{cond}
 use mathlib.Core.List.{List}
 use lib.Dec.{eqb}
-use lib.ListN.{length, take}
+use lib.ListN.{length}
 use Rattle.settings.specs.Answer.{refuses}
 use Rattle.blocks.specs.declared.Block.{Block}
 use Rattle.memory.specs.Leaders.{byList}
-use Rattle.protocol.specs.Calls.{outcome, recordCall, proposeCall}
+use Rattle.protocol.specs.Calls.{outcome, proposeCall}
 use Rattle.refusals.specs.Early.{lent}
-use Rattle.replica.specs.Reply.{replyOf, lentTo, replied, repliedBy}
+use Rattle.replica.specs.Reply.{lentTo, replied, repliedBy}
 use Rattle.judge.specs.Contents.{proposeRefusal}
 use Rattle.replica.proofs.Calling.{propose-with-is}
 use Rattle.counters.specs.declared.Counters.{Counters}

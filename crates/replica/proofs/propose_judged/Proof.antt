@@ -6,26 +6,14 @@ use Rattle.walks.proofs.Data.{fits, word, bytes}
 use Rattle.walks.proofs.Calls.{end, held, made, so, of, asks, came, full, leave, ends}
 use Rattle.walks.proofs.Lent.{lying, Shr}
 use mathlib.Core.List.{List}
-use lib.Dec.{eqb}
-use lib.ListN.{length, take, set}
-use Rattle.settings.specs.Answer.{refuses}
-use Rattle.wire.specs.Content.{content}
-use Rattle.wire.specs.Shape.{badLength}
+use lib.ListN.{length, take}
 use Rattle.blocks.specs.declared.Block.{Block}
 use Rattle.blocks.specs.Store.{held as heldOf}
-use Rattle.blocks.proofs.Ancestry.{is-true, is-false}
-use Rattle.memory.specs.Leaders.{byList}
-use Rattle.protocol.specs.Events.{onRecord, onTimer, onPropose}
-use Rattle.protocol.specs.Rules.{again as turnsOf}
-use Rattle.protocol.specs.Calls.{recordCall, timerCall, proposeCall}
-use Rattle.refusals.specs.Number.{answerOf, firstOf, orElse}
+use Rattle.refusals.specs.Number.{firstOf, orElse}
 use Rattle.refusals.specs.Early.{lent}
-use Rattle.judge.specs.Want.{recordWant, proposeWant}
-use Rattle.judge.specs.Late.{lateRules, latePropose}
-use Rattle.act.specs.Draft.{workOf, left, leftBy}
-use Rattle.event.specs.Event.{Always, Asked, Proposable}
-use Rattle.perform.specs.Perform.{judgedBy, Judges, Accepted, Lent, Completes, timerNumber, proposeNumber, recordNumber}
-use Rattle.replica.specs.Reply.{replyOf, lentTo, replied, repliedBy}
+use Rattle.judge.specs.Want.{proposeWant}
+use Rattle.judge.specs.Late.{latePropose}
+use Rattle.perform.specs.Perform.{judgedBy}
 use Rattle.perform.proofs.Deciding.{propose-judges}
 use Rattle.counters.specs.declared.Counters.{Counters}
 use Rattle.blocks.specs.declared.Block.{Block}

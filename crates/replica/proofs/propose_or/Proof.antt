@@ -6,15 +6,12 @@ use Rattle.walks.proofs.Data.{fits, word, flag}
 use Rattle.walks.proofs.Calls.{end, held, made, out, so, of, asks, back-again, came-last, full, empty, leave, ends}
 use Rattle.walks.proofs.Lent.{lying, lend-mut}
 use Rattle.walks.proofs.Local.{pointing, lend-ref, back-ref, forks}
-use mathlib.Core.Bool.{cond}
 use mathlib.Core.List.{List}
-use lib.Dec.{eqb}
-use lib.ListN.{length, take}
+use lib.ListN.{length}
 use Rattle.settings.specs.Answer.{refuses}
 use Rattle.blocks.specs.declared.Block.{Block}
 use Rattle.memory.specs.Leaders.{byList}
-use Rattle.protocol.specs.Calls.{outcome, recordCall, proposeCall}
-use Rattle.refusals.specs.Early.{lent}
+use Rattle.protocol.specs.Calls.{proposeCall}
 use Rattle.replica.specs.Reply.{replyOf, lentTo, replied, repliedBy}
 use Rattle.replica.proofs.Calling.{call-made, call-unmade}
 use Rattle.blocks.proofs.Ancestry.{is-true, is-false}

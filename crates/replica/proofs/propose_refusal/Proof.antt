@@ -5,16 +5,10 @@ use Rattle.walks.proofs.Walk.{alloc0, params1, pass1, pass0, whole, sub, look-i
 use Rattle.walks.proofs.Data.{fits, word, bytes}
 use Rattle.walks.proofs.Calls.{end, held, made, so, of, asks, came, full, leave, ends}
 use Rattle.walks.proofs.Lent.{lying, Shr}
-use mathlib.Core.Bool.{cond}
 use mathlib.Core.List.{List}
-use lib.Dec.{eqb}
 use lib.ListN.{length, take}
-use Rattle.settings.specs.Answer.{refuses}
 use Rattle.blocks.specs.declared.Block.{Block}
-use Rattle.memory.specs.Leaders.{byList}
-use Rattle.protocol.specs.Calls.{outcome, recordCall, proposeCall}
 use Rattle.refusals.specs.Early.{lent}
-use Rattle.replica.specs.Reply.{replyOf, lentTo, replied, repliedBy}
 use Rattle.blocks.specs.Store.{held as heldOf}
 use Rattle.judge.specs.Contents.{proposeWantWith, proposeDue}
 use Rattle.replica.proofs.Calling.{propose-refusal-is}

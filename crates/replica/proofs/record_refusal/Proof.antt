@@ -5,16 +5,10 @@ use Rattle.walks.proofs.Walk.{fmOf, WpFn-mono, owns, Is, shows, mem, u8, u64, M
 use Rattle.walks.proofs.Data.{fits, word}
 use Rattle.walks.proofs.Calls.{end, held, made, so, of, asks, came, full, leave, ends}
 use Rattle.walks.proofs.Lent.{lying, Shr}
-use mathlib.Core.Bool.{cond}
 use mathlib.Core.List.{List}
-use lib.Dec.{eqb}
-use lib.ListN.{length, take}
-use Rattle.settings.specs.Answer.{refuses}
+use lib.ListN.{length}
 use Rattle.blocks.specs.declared.Block.{Block}
-use Rattle.memory.specs.Leaders.{byList}
-use Rattle.protocol.specs.Calls.{outcome, recordCall, proposeCall}
 use Rattle.refusals.specs.Early.{lent}
-use Rattle.replica.specs.Reply.{replyOf, lentTo, replied, repliedBy}
 use Rattle.judge.specs.Contents.{recordDue}
 use Rattle.counters.specs.declared.Counters.{Counters}
 use Rattle.counters.proofs.Types.{Countersᴿ, Countersᴰ}

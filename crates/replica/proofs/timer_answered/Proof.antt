@@ -8,24 +8,13 @@ use Rattle.walks.proofs.Lent.{lying, lend-mut}
 use Rattle.walks.proofs.Local.{pointing, lend-ref, back-ref, forks}
 use mathlib.Core.List.{List}
 use lib.Dec.{eqb}
-use lib.ListN.{length, take, set}
-use Rattle.settings.specs.Answer.{accepts, refuses}
-use Rattle.wire.specs.Content.{content}
-use Rattle.wire.specs.Shape.{badLength}
+use lib.ListN.{length}
+use Rattle.settings.specs.Answer.{refuses}
 use Rattle.blocks.specs.declared.Block.{Block}
-use Rattle.blocks.specs.Store.{held as heldOf}
 use Rattle.blocks.proofs.Ancestry.{is-true, is-false}
-use Rattle.memory.specs.Leaders.{byList}
-use Rattle.protocol.specs.Events.{onRecord, onTimer, onPropose}
-use Rattle.protocol.specs.Rules.{again as turnsOf}
-use Rattle.protocol.specs.Calls.{recordCall, timerCall, proposeCall}
-use Rattle.refusals.specs.Number.{firstOf, orElse}
+use Rattle.protocol.specs.Calls.{timerCall}
 use Rattle.refusals.specs.Early.{lent}
-use Rattle.judge.specs.Want.{recordWant, proposeWant}
-use Rattle.judge.specs.Late.{lateRules, latePropose}
-use Rattle.act.specs.Draft.{workOf, left, leftBy}
-use Rattle.event.specs.Event.{Always, Asked, Proposable}
-use Rattle.perform.specs.Perform.{judgedBy, Judges, Accepted, Lent, Completes, timerNumber, proposeNumber, recordNumber}
+use Rattle.perform.specs.Perform.{timerNumber}
 use Rattle.replica.specs.Reply.{replyOf, lentTo, replied, repliedBy}
 use Rattle.replica.proofs.Calling.{timer-accepted, timer-unmade}
 use Rattle.counters.specs.declared.Counters.{Counters}
