@@ -2,6 +2,8 @@
 // memory and output. Promises: each leaves counters, memory and written bytes as the action of `protocol` with its name does (`Does`), whatever the
 // store, and the output's bytes behind them as they were. It asks that memory passes refusal 2 and that what it writes has room. Rests on `memory`,
 // `counters`, `certificate` and `wire`.
+#![tactic(auto)]
+
 pub mod progress;
 
 ghost use Rattle.std.specs.Prelude.{◌≡◌};
@@ -18,7 +20,7 @@ use wire::write::{put_timeout, put_vote};
 use wire::{Carried, Timeout, Vote, length};
 
 // The counters so far in a call, and how many bytes it has written.
-#[derive(Drop)]
+#[derive(Clone, Copy)]
 pub struct Draft {
     pub counters: Counters,
     pub at: usize,

@@ -3,6 +3,8 @@
 // `release` asks something, that the block descends and that its records have room; the others ask of their callers here that a place lies inside
 // the store or the output, and that verdicts noted so far are true. proofs/{Filled, Ancestry, Linked, Kept}.antt have the laws.
 // Rests on `codec`, `wire`, the bits of `certificate` and the shared modules of `walks`. Every decision is a function by value; the others move whole blocks.
+#![tactic(auto)]
+
 ghost use Rattle.std.specs.Prelude.{◌≡◌, true, false, cond, ◌+◌, ◌*◌, ◌^◌, ◌<◌, ◌≤◌, ltb, length, set, get_or, take};
 ghost use Rattle.std.proofs.lemmas.List.Edits.{sets};
 ghost use Rattle.codec.specs.Bytes.{patch};
@@ -20,14 +22,14 @@ use wire::Release;
 pub const STORE_LENGTH: usize = 128;
 
 #[repr(C)]
-#[derive(Drop)]
+#[derive(Clone, Copy)]
 pub struct Block {
     pub name: [u8; 32],
     pub parent: [u8; 32],
     pub height: Height,
 }
 
-#[derive(Drop)]
+#[derive(Clone, Copy)]
 pub struct Found {
     pub is: bool,
     pub block: Block,
@@ -156,7 +158,7 @@ pub fn held(store: &[Block], count: usize, tip: Block, name: [u8; 32]) -> Found
 }
 
 // One step of the walk from parent to parent: whether it goes on, and at which block; and where it does not, whether it ends well.
-#[derive(Drop)]
+#[derive(Clone, Copy)]
 struct Onward {
     goes: bool,
     ends: bool,
@@ -207,7 +209,7 @@ pub fn descends(store: &[Block], count: usize, tip: Block, b: Block) -> bool
 }
 
 // Which of the entries judged so far descend, of as many as are held: a bit for each.
-#[derive(Drop)]
+#[derive(Clone, Copy)]
 struct Verdicts {
     low: u64,
     high: u64,
@@ -351,7 +353,7 @@ pub fn release(
 }
 
 // Where an entry that was looked at is stored, and the place of the next one.
-#[derive(Drop)]
+#[derive(Clone, Copy)]
 struct Spot {
     at: usize,
     next: usize,

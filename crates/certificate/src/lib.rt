@@ -1,6 +1,8 @@
 // Certificates: their order, adopting, when one is good (place 9), and the safe certificate of a timeout certificate.
 // Promises: each function computes its definition in specs/, for every input; the functions on records ask only that the bytes are there.
 // Rests on `settings`, `codec` and `wire`.
+#![tactic(auto)]
+
 pub mod good;
 pub mod safe;
 
@@ -13,7 +15,7 @@ use settings::{Settings, View};
 use wire::Carried;
 
 // A block certificate, or else a weak one.
-#[derive(Drop)]
+#[derive(Clone, Copy)]
 pub struct Certificate {
     pub block: bool,
     pub view: View,
@@ -22,7 +24,7 @@ pub struct Certificate {
 }
 
 // The lock is a block certificate, the best weak one a weak certificate; its view is 0 where there is none.
-#[derive(Drop)]
+#[derive(Clone, Copy)]
 pub struct Locks {
     pub lock: Certificate,
     pub weak: Certificate,

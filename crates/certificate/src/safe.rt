@@ -50,7 +50,7 @@ fn gives(rec: &[u8], high: Vote) -> bool
 }
 
 // How many timeouts give a high vote, and who sent them.
-#[derive(Drop)]
+#[derive(Clone, Copy)]
 pub struct Backing {
     pub count: u64,
     pub signers: u64,

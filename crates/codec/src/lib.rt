@@ -1,6 +1,8 @@
 // Bytes of a lent region: parts read and replaced, numbers, names.
 // Promises: what each function reads or leaves is `part`, `patch`, `le_nat`, `be_nat` or `le_bytes` of its input. A `requires` asks only that the
 // place lies inside the region. Rests on nothing but the language's library.
+#![tactic(auto)]
+
 pub mod name;
 pub mod num;
 

@@ -1,6 +1,8 @@
 // The replica's counters: one record that every call updates, lent by the host. The calls of `replica` copy it out, the functions here make the
 // next one by value, and the calls store that whole. Promises: each function leaves what its definition in specs/ says.
 // Any bits are a value of it: numbers and names only. Rests on `settings`, `wire`, `certificate`, `blocks` and the shared modules of `walks`.
+#![tactic(auto)]
+
 ghost use Rattle.std.specs.Prelude.{◌≡◌};
 ghost use Rattle.counters.specs.Counters.{opened, certificate_of, signed_of, locks_of, with_locks, adopting, entering, timing, voting, releasing};
 
@@ -11,7 +13,7 @@ use wire::Vote;
 
 // A certificate whose kind is said by where it stands.
 #[repr(C)]
-#[derive(Drop)]
+#[derive(Clone, Copy)]
 pub struct Signed {
     pub view: View,
     pub name: [u8; 32],
@@ -20,7 +22,7 @@ pub struct Signed {
 
 // 01: view, timed, high vote, lock, best weak, tip. No high vote and no best weak certificate are those of view 0.
 #[repr(C)]
-#[derive(Drop)]
+#[derive(Clone, Copy)]
 pub struct Counters {
     pub view: View,
     pub timed: View,

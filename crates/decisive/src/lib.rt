@@ -1,6 +1,8 @@
 // Whose timeout decided it (02, 2.3): the lowest sender of a timeout certificate without whose timeout the safe block would be another.
 // A function of settings and a record; no replica is asked or touched.
 // Promises: for any four numbers and any bytes, the answer of `decisive_call`; its laws stand in specs/Laws.antt. Rests on `settings`, `shape`, `judge` and `certificate`.
+#![tactic(auto)]
+
 ghost use Rattle.std.specs.Prelude.{◌≡◌, ◌+◌, ◌*◌, ◌≤◌, ◌<◌, length};
 ghost use Rattle.settings.specs.Answer.{accepts, refuses, judge};
 ghost use Rattle.settings.specs.Quorum.{largest, replicas, timeout_quorum};
@@ -22,7 +24,7 @@ use wire::{Progress, TimeoutCertificate, length};
 
 // 01's number of the refusal; or 0, whether there is such a sender, and its number.
 #[repr(C)]
-#[derive(Drop)]
+#[derive(Clone, Copy)]
 pub struct Decisive {
     pub refusal: u64,
     pub found: bool,

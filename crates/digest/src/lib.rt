@@ -2,6 +2,8 @@
 // Promises: `sha256`, `name_of`, `too_long` and `name` are the definitions of `specs/` for every input, without a `requires`; what is proved of the definitions stands in
 // specs/Laws.antt: that they are the standard's, and that a digest is 32 bytes.
 // Nothing is allocated; of a message only its end is copied, and the block in which its two parts meet. Rests on `codec`, and on `settings` for what an answer is.
+#![tactic(auto)]
+
 mod block;
 mod message;
 mod word;
@@ -20,7 +22,7 @@ pub use message::sha256;
 pub const LONGEST_CONTENTS: usize = 4096;
 
 // The eight words of a hash value, and the working variables a to h.
-#[derive(Drop)]
+#[derive(Clone, Copy)]
 pub struct Words {
     pub a: u32,
     pub b: u32,
@@ -34,7 +36,7 @@ pub struct Words {
 
 // 0 and the name, or 02's number of the refusal and the zero name.
 #[repr(C)]
-#[derive(Drop)]
+#[derive(Clone, Copy)]
 pub struct Named {
     pub refusal: u64,
     pub name: [u8; 32],

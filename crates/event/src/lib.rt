@@ -2,6 +2,8 @@
 // The store isn't lent here: an event is told whether the block is held, and hands back a block and its place for the caller to fill in.
 // Promises: with that block filled in, what is left is what the event of `protocol` says (`Gives`), for every store of which the told fact is
 // true. It asks that memory passes refusal 2, that the record was accepted, and that there is room. Rests on `act`.
+#![tactic(auto)]
+
 pub mod host;
 pub mod record;
 
@@ -24,7 +26,7 @@ use settings::{Height, View};
 const NOWHERE: usize = 0xffff_ffff_ffff_ffff;
 
 // The draft so far, and a block that the caller fills in at a place of the store; the place is past every store's end where none is new.
-#[derive(Drop)]
+#[derive(Clone, Copy)]
 pub struct Event {
     pub draft: Draft,
     pub place: usize,

@@ -3,6 +3,8 @@
 // Promises: for any counters, memory, lengths and record, both numbers are those of the lists of `protocol`, in 01's order; together they are
 // the call's answer (proofs/Whole.antt: record-judged, propose-judged, timer-judged). Of a call that comes with contents (02, 2.5) `contents` says what these refuse it by: that, or else
 // the call without them, is the call (record-core-with, propose-core-with). Rests on `refusals`, `shape`, `certificate`, `memory` and `digest`.
+#![tactic(auto)]
+
 pub mod chain;
 pub mod contents;
 
@@ -32,7 +34,7 @@ use wire::read::progress;
 
 // A refusal, or else what is to be looked up in the store: the names of a block and of the block below it, among the tip and the first `count`
 // entries.
-#[derive(Drop)]
+#[derive(Clone, Copy)]
 pub struct Want {
     pub refusal: u64,
     pub count: usize,

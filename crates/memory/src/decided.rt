@@ -12,14 +12,14 @@ use codec::name_at;
 use settings::View;
 
 // A name, or none.
-#[derive(Drop)]
+#[derive(Clone, Copy)]
 pub struct Choice {
     pub some: bool,
     pub name: [u8; 32],
 }
 
 // What decides a name in a view: so many votes, or so many commits, of the first n replicas.
-#[derive(Drop)]
+#[derive(Clone, Copy)]
 pub struct Quorums {
     pub view: View,
     pub n: usize,
@@ -28,14 +28,14 @@ pub struct Quorums {
 }
 
 // How a name stands in a row: whether a quorum backs it, and whether too few entries are for other names to make one.
-#[derive(Drop)]
+#[derive(Clone, Copy)]
 pub struct Standing {
     pub backed: bool,
     pub alone: bool,
 }
 
 // The next decided name, if there is one, and whether it is clear that no other name of the view is decided.
-#[derive(Drop)]
+#[derive(Clone, Copy)]
 pub struct Finding {
     pub some: bool,
     pub name: [u8; 32],

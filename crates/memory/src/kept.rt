@@ -31,7 +31,7 @@ const TIMEOUTS: usize = COMMITS + NAME_ROW * BALLOT_ROWS as usize;
 pub const END: usize = TIMEOUTS + TIMEOUT_ROW * TIMEOUT_ROWS as usize;
 
 // How many replicas back a name, and which.
-#[derive(Drop)]
+#[derive(Clone, Copy)]
 pub struct Tally {
     pub count: u64,
     pub signers: u64,

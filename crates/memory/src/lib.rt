@@ -1,6 +1,8 @@
 // The lent memory of a replica: settings, own number, number of held blocks, leader list, entry certificate, and what is kept of each view.
 // Promises: each function reads or leaves what its definition in specs/ says; it asks only that the place lies inside the memory, and for a leader that the list has an entry.
 // Rests on `settings`, `codec`, `wire` and `certificate`.
+#![tactic(auto)]
+
 pub mod decided;
 pub mod formed;
 pub mod kept;

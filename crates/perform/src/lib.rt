@@ -3,6 +3,8 @@
 // rule D so many turns. Promises: for every store that fits what was found there, the number is that of the lists of `protocol` (proofs/Deciding.antt:
 // record-judges, propose-judges); an accepted call leaves what event and rules of `protocol` leave, and a refused one all as it was (proofs/Calls.antt).
 // Rests on `judge`, `event` and `rules`.
+#![tactic(auto)]
+
 ghost use Rattle.std.specs.Prelude.{◌≡◌, false, ◌+◌, length};
 ghost use Rattle.wire.specs.Content.{content};
 ghost use Rattle.wire.specs.Shape.{bad_length};
@@ -29,7 +31,7 @@ use settings::{Height, View};
 
 // Whether the call is accepted, and if not, 01's number of the refusal; and what an accepted one is to know of the store: whether its block is held, and the
 // height of the block below.
-#[derive(Drop)]
+#[derive(Clone, Copy)]
 pub struct Judged {
     pub accepted: bool,
     pub refusal: u64,
@@ -39,7 +41,7 @@ pub struct Judged {
 
 // What an accepted call leaves to its caller: the draft so far; a block to fill in at a place of the store, which is past every store's end where none is new;
 // and how often rule D may have to run.
-#[derive(Drop)]
+#[derive(Clone, Copy)]
 pub struct Done {
     pub draft: Draft,
     pub place: usize,

@@ -6,3 +6,4 @@
 // rules' run is 01's loop and ends; what is written are whole records; over any list of calls that meets 01's premises all releases lie along one chain (`demand_3`).
 // proofs/: call is about one call, loop about the rules' run, chain is the proof of demand 3, example has the example run, 01's listing and known results.
 // Rests on the definitions and laws of the crates below, and on the argument of `safety`.
+#![tactic(auto)]

@@ -2,6 +2,8 @@
 // Promises: `lowest_target` finds the pair of `lowest_pair`, and `release_all` leaves what `again` of protocol's specs/Rules.antt says, the bytes behind the
 // written ones as they were. It asks that memory and counters pass refusal 2 and that a release of each held block has room.
 // Rests on `memory`, `blocks`, `counters`, `act` and the shared modules of `walks`. Every decision is a function by value; the others move values.
+#![tactic(auto)]
+
 ghost use Rattle.std.specs.Prelude.{◌≡◌, true, cond, ◌+◌, ◌*◌, ◌^◌, ◌<◌, ◌≤◌, length, take};
 ghost use Rattle.settings.specs.Quorum.{largest, last_view, replicas};
 ghost use Rattle.wire.specs.Fields.{release_length};
@@ -25,7 +27,7 @@ use settings::{Height, View};
 use wire::length;
 
 // Where the search stands: at a view, above a name or at its first; how many views come after it, and how many of its names are still tried.
-#[derive(Drop)]
+#[derive(Clone, Copy)]
 struct Place {
     view: View,
     some: bool,
@@ -36,7 +38,7 @@ struct Place {
 
 // What the memory says there: the next decided name, if there is one; in how many entries it is looked for, how many names a view is tried for, and
 // whether it is clear that the view decides no other name.
-#[derive(Drop)]
+#[derive(Clone, Copy)]
 struct Look {
     some: bool,
     name: [u8; 32],
@@ -46,7 +48,7 @@ struct Look {
 }
 
 // The block to release, if there is one, and the view of the votes or commits that decide it.
-#[derive(Drop)]
+#[derive(Clone, Copy)]
 pub struct Target {
     pub is: bool,
     pub view: View,
@@ -54,7 +56,7 @@ pub struct Target {
 }
 
 // One step of the search: it goes on at a place, or ends with a target.
-#[derive(Drop)]
+#[derive(Clone, Copy)]
 struct Step {
     goes: bool,
     place: Place,
@@ -359,7 +361,7 @@ fn release_if(
 }
 
 // Turns of rule D: view and tip, bytes written, turns left, and whether the last one released something. Of the counters rule D needs no more.
-#[derive(Drop)]
+#[derive(Clone, Copy)]
 struct Turn {
     goes: bool,
     view: View,

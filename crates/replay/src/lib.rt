@@ -2,6 +2,8 @@
 // Promises: the opening is judged as `opening_of` and `opens_with` say, and any number of steps over any bytes, from any counters, memory, store and regions, leaves what
 // `steps` says, which on a whole input is 01's run (`program` of specs/Replay.antt, proofs/Whole.antt). It reads and prints nothing. Rests on `replica`.
 // Every decision is in a function by value; the functions over counters and store only pass them on.
+#![tactic(auto)]
+
 pub mod input;
 pub mod lines;
 
@@ -21,7 +23,7 @@ use replica::{Name, Reply};
 use settings::{Height, View};
 
 // The first record: whether it is a well-formed opening, and its five numbers.
-#[derive(Drop)]
+#[derive(Clone, Copy)]
 pub struct Opening {
     pub well: bool,
     pub f: u64,
@@ -32,8 +34,8 @@ pub struct Opening {
 }
 
 // What the next piece of the input asks: one call, or none and the answer. Where none is taken it asks nothing.
-#[derive(Drop)]
-struct Request {
+#[derive(Clone, Copy)]
+pub struct Request {
     takes: bool,
     used: usize,
     answer: u64,
@@ -45,7 +47,7 @@ struct Request {
 }
 
 // How far the bytes at hand and the region of lines are used up, and the number of the next call: 0 where the program has stopped.
-#[derive(Drop)]
+#[derive(Clone, Copy)]
 pub struct Place {
     pub at: usize,
     pub filled: usize,
@@ -53,7 +55,7 @@ pub struct Place {
 }
 
 // Whether a function that calls itself goes on, and at which level.
-#[derive(Drop)]
+#[derive(Clone, Copy)]
 pub struct Depth {
     pub goes: bool,
     pub level: u64,

@@ -5,6 +5,8 @@
 // and `hydrangea_name` what `name_call` of `digest` says. No public function has a `requires`. Rests on `judge`, `perform`, `release`, `decisive` and `digest`. A call is judged first, which
 // writes nothing, and what is left of it is done where it is accepted; a call with contents is refused by these, or it is the call without them.
 // They are exported by their own names, hence the prefix: a library that exports `open` would take the place of the C library's.
+#![tactic(auto)]
+
 ghost use Rattle.std.specs.Prelude.{◌≡◌, cond, List, [], eqb, length, set};
 ghost use Rattle.settings.specs.Answer.{accepts, refuses};
 ghost use Rattle.memory.specs.Leaders.{by_list};
@@ -36,7 +38,7 @@ use settings::{Admission, Height, Settings, View, admit, bad_leaders};
 
 // 01's number of the refusal and no bytes; or 0, and the number of bytes written.
 #[repr(C)]
-#[derive(Drop)]
+#[derive(Clone, Copy)]
 pub struct Reply {
     pub refusal: u64,
     pub written: usize,
@@ -44,7 +46,7 @@ pub struct Reply {
 
 // A name by value: an array by itself does not cross the library's boundary.
 #[repr(C)]
-#[derive(Drop)]
+#[derive(Clone, Copy)]
 pub struct Name {
     pub bytes: [u8; 32],
 }
@@ -422,7 +424,7 @@ pub extern "C" fn hydrangea_propose_with(
 }
 
 // 01's number of the refusal, or 0, and the counters.
-#[derive(Drop)]
+#[derive(Clone, Copy)]
 struct Opened {
     refusal: u64,
     counters: Counters,

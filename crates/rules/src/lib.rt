@@ -1,6 +1,8 @@
 // The rules A, B and C after an event, each at one view, and their run: all A, all B, all C, views ascending, which is 01's loop
 // (`settle_is_the_loop` of protocol). Promises: each leaves what the rule of `protocol` with its name does (`Does`), on any kept rows. It asks that
 // memory passes refusal 2 and that the most its run can write has room. Rests on `act` and `memory`.
+#![tactic(auto)]
+
 pub mod phases;
 
 ghost use Rattle.std.specs.Prelude.{◌≡◌, ◌+◌, ◌≤◌, ◌<◌, length};

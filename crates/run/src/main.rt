@@ -2,6 +2,8 @@
 // Promises: it is safe on any input, comes to its end, and leaves its replica as 01's run of what it read does (`Program` of specs/Running.antt, proofs/Whole.antt). It
 // goes by turns: bytes are read behind those at hand, `replay` takes the pieces that are known and gives their lines, which are printed, and the rest is kept. That the
 // operating system's calls read and write what they say is assumed; the digits printed are tested. Rests on `replay` and on the kit's `io`.
+#![tactic(auto)]
+
 mod printing;
 mod reading;
 
@@ -27,7 +29,7 @@ const INPUT_LENGTH: usize = 8192;
 const LINES_LENGTH: usize = INPUT_LENGTH / HEADER * LINE;
 
 // What stands between two turns: how many bytes are at hand, whether the input has ended, and the number of the next call, 0 where the program has stopped.
-#[derive(Drop)]
+#[derive(Clone, Copy)]
 struct Turn {
     have: usize,
     ended: bool,

@@ -1,13 +1,15 @@
 // The settings of a cluster: how many replicas it has, its five quorums, and the tests that opening makes of them and of the leader list.
 // Promises: each function returns what 01's formula or 02's rule says, for every input; no sum wraps and no call is refused by a `requires`.
 // Rests on nothing but the language's library.
+#![tactic(auto)]
+
 ghost use Rattle.std.specs.Prelude.{◌≡◌};
 ghost use Rattle.settings.specs.Quorum.{replicas, slack, block_quorum, weak_quorum, timeout_quorum, slow_quorum, fast_quorum};
 ghost use Rattle.settings.specs.Opening.{admission, opening, has_from, bad_leaders};
 
 // A view number. Views and heights are types of their own, so that no code compares or adds one to the other.
 #[repr(C)]
-#[derive(Drop)]
+#[derive(Clone, Copy)]
 pub struct View(pub u64);
 
 impl View {
@@ -17,7 +19,7 @@ impl View {
 
 // A block's height: the number of its ancestors.
 #[repr(C)]
-#[derive(Drop)]
+#[derive(Clone, Copy)]
 pub struct Height(pub u64);
 
 impl Height {
@@ -26,7 +28,7 @@ impl Height {
 }
 
 // 01: f Byzantine replicas, c more that may stop, and k. A width of 16 bits holds whatever a cluster needs, and no formula can wrap.
-#[derive(Drop)]
+#[derive(Clone, Copy)]
 pub struct Settings {
     pub f: u16,
     pub c: u16,
@@ -82,7 +84,7 @@ impl Settings {
 }
 
 // The answer to an opening: the settings, or refusal 1.
-#[derive(Drop)]
+#[derive(Clone, Copy)]
 pub enum Admission {
     Admitted(Settings),
     Refused,

@@ -1,5 +1,7 @@
 // The place "shape": answers 3, 4 and 5, over inner records too.
 // Promises: for any slice and any n the verdict is 01's answer; no slice traps. Rests on `codec` and on the definitions of `wire`.
+#![tactic(auto)]
+
 ghost use Rattle.std.specs.Prelude.{◌≡◌, false, ◌+◌, ◌*◌, ◌≤◌, length, drop};
 ghost use Rattle.wire.specs.Fields.{cut, progress_of, header_length, timeout_length, timeouts_head, proposal_head};
 ghost use Rattle.wire.specs.Shape.{any, frame_bad, timeouts_length, certificate_length, progress_length, kind_length, bad_length, carried_kind_bad, slot_kind_bad, certificate_kind_bad, bad_kind, beyond, half_empty, timeout_value_bad, slot_value_bad, slots_value_bad, certificate_value_bad, progress_value_bad, proposal_value_bad, bad_value, shape_of};
@@ -15,7 +17,7 @@ use wire::length;
 const INNER_HEADER_END: usize = length::PROPOSAL_HEAD + length::HEADER;
 
 // What the place says of a slice.
-#[derive(Drop)]
+#[derive(Clone, Copy)]
 pub enum Verdict {
     Whole,
     BadLength,

@@ -2,6 +2,8 @@
 // digest, whose height is the message's length and whose contents are the message. Where the name is refused, the number of the refusal stands in its place; a line that isn't
 // whole bytes gets `-`; one that begins with `#` is written as it is. At most 65,536 bytes are read.
 // Promises: it is safe on any input and comes to its end. What it writes for published messages, in `stdin`, is held to `stdout`. Rests on `digest` and on the kit's `io`.
+#![tactic(auto)]
+
 ghost use Rattle.std.specs.Prelude.{◌*◌, ◌≤◌, length};
 
 use codec::num::be_at;
