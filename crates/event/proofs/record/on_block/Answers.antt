@@ -1,0 +1,15 @@
+use mathlib.Core.Path.{refl}
+use Rattle.event.proofs.Records.{block_read}
+use Rattle.event.proofs.record.on_block.Goals as goal
+
+pub block-requires : goal.block-requires
+block-requires c = c.requires.1.1
+
+pub block_of-block-requires : goal.block_of-block-requires
+block_of-block-requires c = tt
+
+pub take_place-place-requires : goal.take_place-place-requires
+take_place-place-requires c = (c.requires.0, c.requires.1.0)
+
+pub returns : goal.returns
+returns c = (refl, (c.take_place-place.ensures.0, (block_read _ c.block.ensures c.before.before.before.before.Block-of.ensures, c.take_place-place.ensures.1)))

@@ -1,0 +1,5 @@
+use Rattle.release.proofs.finished.Lts as lts
+use Rattle.release.proofs.finished.Goals as goal
+
+pub returns : goal.returns
+returns c = rw (c.releasing-counters.ensures, c.last_released-tip.ensures)

@@ -1,0 +1,7 @@
+use Rattle.release.specs.Search.{first_place}
+use Rattle.release.proofs.first_place.Lts as lts
+use Rattle.release.proofs.first_place.Goals as goal
+
+pub returns : goal.returns
+unfolding first_place
+returns c = rw (c.Views-after.ensures, ← c.highest.ensures, ← c.lowest-low.ensures, c.n-n.ensures, c.settings.ensures)

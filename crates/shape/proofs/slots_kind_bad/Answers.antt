@@ -1,0 +1,22 @@
+use mathlib.Core.Path.{sym, ◌∙◌}
+use Prim.Native.Nat.{◌-◌}
+use native.Mathlib.Nat.{sub-zero}
+use Rattle.wire.specs.Shape.{slot_kind_bad}
+use Rattle.shape.proofs.Slots.{any_here, any_later, any_none}
+use borrow.Author.Rules.{rules}
+use native.Mathlib.Omega.{arith}
+use Rattle.shape.proofs.slots_kind_bad.Goals as goal
+
+pub loop-i-init : goal.loop-i-init
+loop-i-init c = (search rules, rw sub-zero)
+
+pub returns-then-slot_kind_bad : goal.returns-then-slot_kind_bad
+returns-then-slot_kind_bad c = let l = c.loop-i in
+    sym (l.invariant.1 ∙ any_here slot_kind_bad _ _ _ c.loop-i-test.true (sym c.slot_kind_bad.ensures ∙ c.if-slot_kind_bad.true))
+
+pub loop-i-preserved : goal.loop-i-preserved
+loop-i-preserved c = let l = c.loop-i in
+    (omega arith, l.invariant.1 ∙ any_later slot_kind_bad _ _ _ c.loop-i-test.true (sym c.slot_kind_bad.ensures ∙ c.if-slot_kind_bad.false))
+
+pub returns : goal.returns
+returns c = sym (c.loop-i.invariant.1 ∙ any_none slot_kind_bad _ _ _ c.loop-i-test.false)
