@@ -3,4 +3,4 @@ use Rattle.counters.proofs.with_locks.Goals as goal
 
 pub returns : goal.returns
 unfolding with_locks
-returns c = rw (c.before.Signed-of.ensures, c.signed_of-next-2.ensures)
+returns c = rw (c.signed_of-next.ensures, c.signed_of-next-2.ensures)

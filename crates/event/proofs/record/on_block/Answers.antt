@@ -12,4 +12,4 @@ pub take_place-place-requires : goal.take_place-place-requires
 take_place-place-requires c = (c.requires.0, c.requires.1.0)
 
 pub returns : goal.returns
-returns c = (refl, (c.take_place-place.ensures.0, (block_read _ c.block.ensures c.before.before.before.before.Block-of.ensures, c.take_place-place.ensures.1)))
+returns c = (refl, (c.take_place-place.ensures.0, (block_read _ c.block.ensures c.block_of-block.ensures, c.take_place-place.ensures.1)))

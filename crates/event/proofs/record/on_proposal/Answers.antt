@@ -21,4 +21,4 @@ pub proposition-requires : goal.proposition-requires
 proposition-requires c = (c.requires.0, (inner_is _ c.args.rec.now c.requires.1.0, c.requires.1.1))
 
 pub returns : goal.returns
-returns c = proposal_read c.args.d _ _ c.args.rec.now c.args.held c.u64_at.ensures c.proposed.ensures c.before.before.before.before.before.before.before.before.Block-of.ensures c.proposition.ensures
+returns c = proposal_read c.args.d _ _ c.args.rec.now c.args.held c.u64_at.ensures c.proposed.ensures c.block_of-block.ensures c.proposition.ensures
