@@ -35,12 +35,15 @@ module _ {Name : Type 0} {Parent : Name → Name → Type 0} {genesis : Name} (P
       ap (λ (h : List Name). h ++ (x ∷ [])) (same_row l' u.0 y r u.1) ∙ sym u.2
 
   -- if b extends a, the row to b begins with the row to a
-  pub row_begins : (l m : List Name) (a b : Name) → Row Parent genesis l a → Row Parent genesis m b → Extends Parent a b → Begins l m
-  row_begins l m a b r s same = record { rest = []; is = sym (append-nil l ∙ same_row l m a r s) }
-  row_begins l m a b r s (above {y = y} p e) =
+  row_begins' : (l : List Name) (a : Name) → Row Parent genesis l a → (m : List Name) (b : Name) → Row Parent genesis m b → Extends Parent a b → Begins l m
+  row_begins' l a r m b s same = record { rest = []; is = sym (append-nil l ∙ same_row l m a r s) }
+  row_begins' l a r m b s (above {y = y} p e) =
       let u = unsnoc m b y s p in
-      let h = row_begins l u.0 a y r u.1 e in
+      let h = row_begins' l a r u.0 y u.1 e in
       record { rest = h.rest ++ (b ∷ []); is = u.2 ∙ ap (λ (z : List Name). z ++ (b ∷ [])) h.is ∙ append_assoc l h.rest (b ∷ []) }
+
+  pub row_begins : (l m : List Name) (a b : Name) → Row Parent genesis l a → Row Parent genesis m b → Extends Parent a b → Begins l m
+  row_begins l m a b r s e = row_begins' l a r m b s e
 
 pub empty_begins : {A : Type 0} (m : List A) → Begins [] m
 empty_begins m = record { rest = m; is = refl }
