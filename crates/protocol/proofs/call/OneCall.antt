@@ -229,14 +229,14 @@ opening_accepted r f c k n own leaders size b t e =
 pub calls_keep : (r : Replica) (ts : List Handing) → All HandingTyped ts → RegularReplica r → RegularReplica (after by_list r ts)
 unfolding after All
 calls_keep r [] h R = R
-calls_keep r (t ∷ ts) h R = calls_keep _ ts h.1 (call_keeps r t.output t.call h.0 R)
+calls_keep r (t ∷ ts) h R = calls_keep (left (call_on by_list r t.output t.call)) ts h.1 (call_keeps r t.output t.call h.0 R)
 
 pub calls_same : (r : Replica) (ts : List Handing) → All HandingTyped ts → RegularReplica r → Same r (after by_list r ts)
 unfolding after All
 calls_same r [] h R = record { memory = refl; store = refl; settings = refl; own = refl; leaders = refl }
 calls_same r (t ∷ ts) h R =
     let a = call_same r t.output t.call R.typed h.0 in
-    let b = calls_same _ ts h.1 (call_keeps r t.output t.call h.0 R) in
+    let b = calls_same (left (call_on by_list r t.output t.call)) ts h.1 (call_keeps r t.output t.call h.0 R) in
     record {
       memory = b.memory ∙ a.memory;
       store = b.store ∙ a.store;
