@@ -1,4 +1,3 @@
-pub mod Types
 pub mod Finding
 pub mod Ancestry
 pub mod Judging

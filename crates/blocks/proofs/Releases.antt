@@ -4,7 +4,6 @@ use Prim.Native.Nat.{ℕ, ◌+◌, ◌*◌}
 use native.Mathlib.Omega.{arith}
 use mathlib.Core.List.{List, [], ◌∷◌, ◌++◌, append-nil, append_assoc}
 use lib.ListN.{length, length-append}
-use Rattle.walks.proofs.Data.{At, bytes}
 use Rattle.codec.specs.Bytes.{patch}
 use Rattle.codec.proofs.Laws.{patch_nil, patch_append}
 use Rattle.codec.proofs.Le.{length-le_bytes}
@@ -12,10 +11,6 @@ use Rattle.wire.specs.Encode.{release_bytes, joined}
 use Rattle.wire.proofs.Lengths.{length_header}
 use Rattle.blocks.specs.Store.{releases}
 use Rattle.blocks.specs.declared.Block.{Block}
-
--- a name by value has 32 bytes
-pub name_size : (x : List ℕ) → At (bytes 32) x → length x ≡ 32
-name_size x is = is.1.0.1
 
 pub length_release : (sender view : ℕ) (name : List ℕ) (height : ℕ) → length name ≡ 32 → length (release_bytes sender view name height) ≡ 56
 unfolding release_bytes

@@ -1,7 +1,6 @@
 use mathlib.Core.Path.{sym, ap, ◌∙◌}
 use lib.ListN.{get_or}
 use Rattle.codec.proofs.Order.{ne_same}
-use Rattle.blocks.proofs.earlier.Lts as lts
 use Rattle.blocks.proofs.earlier.Goals as goal
 
 pub returns-then-x-name : goal.returns-then-x-name

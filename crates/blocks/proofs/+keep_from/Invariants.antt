@@ -1,0 +1,5 @@
+-- The entries that are left.
+use Rattle.blocks.proofs.+keep_from.Given as goal
+
+abbrev pub decreases-keep_from : goal.decreases-keep_from
+decreases-keep_from l = l.left
