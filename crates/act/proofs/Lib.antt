@@ -1,4 +1,3 @@
-pub mod Types
 pub mod Steps
 pub mod Sends
 pub mod Advancing

@@ -1,4 +1,3 @@
-use Rattle.act.proofs.Types.{name_typed}
 use Rattle.act.proofs.Steps.{ready_facts}
 use Rattle.act.proofs.Sends.{commit_does}
 use borrow.Author.Rules.{rules}
@@ -9,4 +8,4 @@ pub keep-requires : goal.keep-requires
 keep-requires c = let f = ready_facts _ _ _ c.requires in (omega (arith, c.commit_row.ensures), (search rules, (omega (arith, c.own-me.ensures, f.few, f.member), omega (arith, c.commit_row.ensures, c.requires.long))))
 
 pub returns : goal.returns
-returns c = let a = c.args in commit_does a.d _ _ a.view.0 a.name (name_typed a.name c.well_formed.1.1.1.1.0).size c.requires.room c.own-me.ensures c.put_vote.ensures c.commit_row.ensures c.keep.ensures
+returns c = let a = c.args in commit_does a.d _ _ a.view.0 a.name (search rules) c.requires.room c.own-me.ensures c.put_vote.ensures c.commit_row.ensures c.keep.ensures

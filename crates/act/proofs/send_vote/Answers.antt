@@ -1,4 +1,3 @@
-use Rattle.act.proofs.Types.{name_typed}
 use Rattle.act.proofs.Steps.{ready_facts}
 use Rattle.act.proofs.Sends.{vote_does}
 use borrow.Author.Rules.{rules}
@@ -12,4 +11,4 @@ pub overflow_add-result : goal.overflow_add-result
 overflow_add-result c = omega (arith, c.requires.room, c.well_formed.1.0.0)
 
 pub returns : goal.returns
-returns c = let a = c.args in vote_does a.d _ _ a.view.0 a.name (name_typed a.name c.well_formed.1.1.1.1.0).size c.requires.room c.own-me.ensures c.put_vote.ensures c.vote_row.ensures c.keep.ensures c.voting.ensures
+returns c = let a = c.args in vote_does a.d _ _ a.view.0 a.name (search rules) c.requires.room c.own-me.ensures c.put_vote.ensures c.vote_row.ensures c.keep.ensures c.voting.ensures

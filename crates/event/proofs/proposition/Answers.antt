@@ -1,5 +1,5 @@
+use borrow.Author.Rules.{rules}
 use Rattle.act.proofs.Steps.{ready_facts, ready_regular, ready_less}
-use Rattle.act.proofs.Types.{draft_typed}
 use Rattle.act.proofs.Advancing.{progress_form, progress_room}
 use Rattle.event.proofs.Holding.{adopted_ready, now_gives, next_ready, next_room, next_gives}
 use native.Mathlib.Omega.{arith}
@@ -9,7 +9,7 @@ pub adopt_safe-requires : goal.adopt_safe-requires
 adopt_safe-requires c = (c.requires.0.long, ((ready_facts _ _ _ c.requires.0).few, c.requires.1.0.form))
 
 pub hold_and_vote-requires : goal.hold_and_vote-requires
-hold_and_vote-requires c = let R = ready_regular c.args.d _ _ c.requires.0 (draft_typed c.args.d c.well_formed.1.1.0) (λ j. (c.slice_known-1.given j).fits) in
+hold_and_vote-requires c = let R = ready_regular c.args.d _ _ c.requires.0 (search rules) (λ j. (c.slice_known-1.given j).fits) in
     let f = progress_form _ c.args.rec.now (λ j. (c.shared_slice_known-1.given j).fits) c.requires.1.0 in
     (adopted_ready c.args.d _ _ c.args.rec.now 48 (ready_less _ _ _ _ 48 (omega arith) c.requires.0) R f c.adopt_safe.ensures, c.requires.1.1)
 
@@ -20,11 +20,11 @@ pub progress-next-requires : goal.progress-next-requires
 progress-next-requires c = (ready_less _ _ _ _ _ (omega (arith, progress_room _ c.args.rec.now (ready_facts _ _ _ c.requires.0).few c.requires.1.0)) c.requires.0, c.requires.1.0)
 
 pub hold_and_vote-requires-2 : goal.hold_and_vote-requires-2
-hold_and_vote-requires-2 c = let R = ready_regular c.args.d _ _ c.requires.0 (draft_typed c.args.d c.well_formed.1.1.0) (λ j. (c.slice_known-1.given j).fits) in
+hold_and_vote-requires-2 c = let R = ready_regular c.args.d _ _ c.requires.0 (search rules) (λ j. (c.slice_known-1.given j).fits) in
     let f = progress_form _ c.args.rec.now (λ j. (c.shared_slice_known-1.given j).fits) c.requires.1.0 in
     (next_ready c.args.d _ _ c.args.view.0 c.args.block c.args.held c.args.rec.now R f c.progress-next.ensures c.requires.0, next_room c.args.d _ _ c.args.view.0 c.args.block c.args.held c.args.rec.now R f c.progress-next.ensures c.requires.1.1)
 
 pub returns : goal.returns
-returns c = let R = ready_regular c.args.d _ _ c.requires.0 (draft_typed c.args.d c.well_formed.1.1.0) (λ j. (c.slice_known-1.given j).fits) in
+returns c = let R = ready_regular c.args.d _ _ c.requires.0 (search rules) (λ j. (c.slice_known-1.given j).fits) in
     let f = progress_form _ c.args.rec.now (λ j. (c.shared_slice_known-1.given j).fits) c.requires.1.0 in
     next_gives c.args.d _ _ c.args.view.0 c.args.block c.args.held c.args.rec.now R f c.progress-next.ensures c.if-view-c.false c.hold_and_vote-2.ensures

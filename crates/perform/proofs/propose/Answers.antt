@@ -1,5 +1,5 @@
+use borrow.Author.Rules.{rules}
 use Rattle.protocol.specs.Events.{on_propose}
-use Rattle.act.proofs.Types.{counters_typed, name_typed}
 use Rattle.event.specs.Event.{Proposable}
 use Rattle.perform.specs.Perform.{fresh}
 use Rattle.perform.proofs.Completing.{completes}
@@ -10,7 +10,7 @@ pub on_propose-e-requires : goal.on_propose-e-requires
 on_propose-e-requires c = propose_asks (fresh c.args.c) _ _ c.args.name c.args.below.0 (propose_passes c.args.c _ _ c.args.name c.args.below.0 c.requires) c.requires
 
 pub finish-requires : goal.finish-requires
-finish-requires c = propose_ready (fresh c.args.c) _ _ c.args.name c.args.below.0 (propose_passes c.args.c _ _ c.args.name c.args.below.0 c.requires) c.requires (name_typed c.args.name c.well_formed.1.1.1.0) (counters_typed c.args.c _ c.well_formed.0) (λ j. (c.slice_known-1.given j).fits) c.on_propose-e.ensures
+finish-requires c = propose_ready (fresh c.args.c) _ _ c.args.name c.args.below.0 (propose_passes c.args.c _ _ c.args.name c.args.below.0 c.requires) c.requires (search rules) (search rules) (λ j. (c.slice_known-1.given j).fits) c.on_propose-e.ensures
 
 pub returns : goal.returns
 returns c = completes (on_propose c.args.name) (Proposable c.args.name c.args.below.0) c.on_propose-e.ensures c.finish.ensures

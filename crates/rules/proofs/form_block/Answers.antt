@@ -1,8 +1,8 @@
+use borrow.Author.Rules.{rules}
 use mathlib.Core.Path.{ap, ◌∙◌}
 use Rattle.settings.specs.declared.Settings.{Settings}
 use Rattle.settings.specs.Quorum.{replicas}
 use Rattle.act.proofs.Steps.{ready_facts}
-use Rattle.act.proofs.Types.{name_typed}
 use Rattle.rules.proofs.Views.{block_below, block_in_output, block_does}
 use native.Mathlib.Omega.{arith}
 use Rattle.rules.proofs.form_block.Goals as goal
@@ -23,7 +23,7 @@ pub adopting-requires : goal.adopting-requires
 adopting-requires c = tt
 
 pub returns-then-view-c : goal.returns-then-view-c
-returns-then-view-c c = block_below c.args.d _ _ c.args.view.0 c.args.name c.requires.0 c.requires.1 (name_typed c.args.name c.well_formed.1.1.1.1.0) c.settings.ensures c.n-n.ensures c.vote_row.ensures c.count_backers-backed.ensures c.if-view-c.true c.adopting.ensures
+returns-then-view-c c = block_below c.args.d _ _ c.args.view.0 c.args.name c.requires.0 c.requires.1 (search rules) c.settings.ensures c.n-n.ensures c.vote_row.ensures c.count_backers-backed.ensures c.if-view-c.true c.adopting.ensures
 
 pub own-requires : goal.own-requires
 own-requires c = omega (arith, c.requires.0.long)
@@ -32,7 +32,7 @@ pub put_block_certificate-requires : goal.put_block_certificate-requires
 put_block_certificate-requires c = omega (arith, c.requires.0.room)
 
 pub act_on-requires : goal.act_on-requires
-act_on-requires c = block_in_output c.args.d _ _ c.args.view.0 c.args.name c.requires.0 c.requires.1 (name_typed c.args.name c.well_formed.1.1.1.1.0) c.settings.ensures c.n-n.ensures c.vote_row.ensures c.count_backers-backed.ensures c.if-view-c.false c.own.ensures c.put_block_certificate.ensures
+act_on-requires c = block_in_output c.args.d _ _ c.args.view.0 c.args.name c.requires.0 c.requires.1 (search rules) c.settings.ensures c.n-n.ensures c.vote_row.ensures c.count_backers-backed.ensures c.if-view-c.false c.own.ensures c.put_block_certificate.ensures
 
 pub returns : goal.returns
-returns c = block_does c.args.d _ _ c.args.view.0 c.args.name c.requires.0 c.requires.1 (name_typed c.args.name c.well_formed.1.1.1.1.0) c.settings.ensures c.n-n.ensures c.vote_row.ensures c.count_backers-backed.ensures c.if-view-c.false c.own.ensures c.put_block_certificate.ensures c.act_on.ensures
+returns c = block_does c.args.d _ _ c.args.view.0 c.args.name c.requires.0 c.requires.1 (search rules) c.settings.ensures c.n-n.ensures c.vote_row.ensures c.count_backers-backed.ensures c.if-view-c.false c.own.ensures c.put_block_certificate.ensures c.act_on.ensures

@@ -1,5 +1,5 @@
+use borrow.Author.Rules.{rules}
 use Rattle.act.proofs.Steps.{ready_regular, ready_less}
-use Rattle.act.proofs.Types.{draft_typed}
 use Rattle.rules.proofs.Running.{ready_b, ready_c, phases_do}
 use native.Mathlib.Omega.{arith}
 use Rattle.rules.proofs.phases.run_all.Goals as goal
@@ -8,10 +8,10 @@ pub run_a-a-requires : goal.run_a-a-requires
 run_a-a-requires c = ready_less _ _ _ _ _ (omega arith) c.requires
 
 pub run_b-b-requires : goal.run_b-b-requires
-run_b-b-requires c = ready_b c.requires (ready_regular c.args.d _ _ c.requires (draft_typed c.args.d c.well_formed.1.1.0) (λ j. (c.slice_known-1.given j).fits)) c.run_a-a.ensures
+run_b-b-requires c = ready_b c.requires (ready_regular c.args.d _ _ c.requires (search rules) (λ j. (c.slice_known-1.given j).fits)) c.run_a-a.ensures
 
 pub run_c-requires : goal.run_c-requires
-run_c-requires c = ready_c c.requires (ready_regular c.args.d _ _ c.requires (draft_typed c.args.d c.well_formed.1.1.0) (λ j. (c.slice_known-1.given j).fits)) c.run_a-a.ensures c.run_b-b.ensures
+run_c-requires c = ready_c c.requires (ready_regular c.args.d _ _ c.requires (search rules) (λ j. (c.slice_known-1.given j).fits)) c.run_a-a.ensures c.run_b-b.ensures
 
 pub shape_of-mem : goal.shape_of-mem
 shape_of-mem c = omega (arith, c.run_a-a.auto.0, c.run_b-b.auto.0, c.run_c.auto.0)

@@ -1,3 +1,4 @@
+use borrow.Author.Rules.{rules}
 use Prim.Native.Nat.{◌-◌}
 use mathlib.Core.Path.{refl}
 use Rattle.memory.specs.Layout.{entry_room}
@@ -5,7 +6,6 @@ use Rattle.protocol.specs.Rules.{rule_b}
 use Rattle.protocol.proofs.call.Rules.{b_regular}
 use Rattle.protocol.proofs.call.Written.{b_out}
 use Rattle.act.proofs.Steps.{ready_facts, ready_regular}
-use Rattle.act.proofs.Types.{draft_typed}
 use Rattle.rules.proofs.Running.{b_longer, run_start, run_turn, run_ready, b_ends}
 use native.Mathlib.Omega.{arith}
 use Rattle.rules.proofs.phases.run_b.Goals as goal
@@ -17,7 +17,7 @@ pub loop-view-init : goal.loop-view-init
 loop-view-init c = (omega arith, (omega arith, (run_start rule_b b_longer c.args.d _ _ c.args.d.counters.view.0 (omega (arith, c.requires.room)), (refl, refl))))
 
 pub rule_b-next-requires : goal.rule_b-next-requires
-rule_b-next-requires c = let f = ready_facts _ _ _ c.requires in (run_ready rule_b entry_room b_regular b_out c.args.d.counters.view.0 (c.loop-view.view - c.args.d.counters.view.0) c.loop-view.invariant.1.1.0 c.requires (ready_regular c.args.d _ _ c.requires (draft_typed c.args.d c.well_formed.1.1.0) (λ j. (c.slice_known-1.given j).fits)) (omega (arith, c.highest-last.ensures, f.view_last, c.loop-view-test.true, c.loop-view.invariant.0, c.loop-view.invariant.1.0)) (omega (arith, c.highest-last.ensures, f.view_last, f.view_first, c.loop-view-test.true, c.loop-view.invariant.0, c.loop-view.invariant.1.0)), omega (arith, c.highest-last.ensures, f.view_last, c.loop-view-test.true))
+rule_b-next-requires c = let f = ready_facts _ _ _ c.requires in (run_ready rule_b entry_room b_regular b_out c.args.d.counters.view.0 (c.loop-view.view - c.args.d.counters.view.0) c.loop-view.invariant.1.1.0 c.requires (ready_regular c.args.d _ _ c.requires (search rules) (λ j. (c.slice_known-1.given j).fits)) (omega (arith, c.highest-last.ensures, f.view_last, c.loop-view-test.true, c.loop-view.invariant.0, c.loop-view.invariant.1.0)) (omega (arith, c.highest-last.ensures, f.view_last, f.view_first, c.loop-view-test.true, c.loop-view.invariant.0, c.loop-view.invariant.1.0)), omega (arith, c.highest-last.ensures, f.view_last, c.loop-view-test.true))
 
 pub overflow_add-view : goal.overflow_add-view
 overflow_add-view c = omega (arith, c.loop-view-test.true, c.highest-last.ensures)

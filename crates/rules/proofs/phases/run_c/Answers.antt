@@ -1,10 +1,10 @@
+use borrow.Author.Rules.{rules}
 use Prim.Native.Nat.{◌-◌}
 use mathlib.Core.Path.{refl}
 use Rattle.protocol.specs.Rules.{rule_c}
 use Rattle.protocol.proofs.call.Rules.{c_regular}
 use Rattle.protocol.proofs.call.Written.{c_out}
 use Rattle.act.proofs.Steps.{ready_facts, ready_regular}
-use Rattle.act.proofs.Types.{draft_typed}
 use Rattle.rules.proofs.Running.{c_longer, run_start, run_turn, run_ready, c_ends}
 use native.Mathlib.Omega.{arith}
 use Rattle.rules.proofs.phases.run_c.Goals as goal
@@ -19,7 +19,7 @@ pub loop-view-init : goal.loop-view-init
 loop-view-init c = (omega arith, (omega arith, (run_start rule_c c_longer c.args.d _ _ c.lowest-view.result.0 (omega (arith, c.requires.room)), (refl, refl))))
 
 pub rule_c-next-requires : goal.rule_c-next-requires
-rule_c-next-requires c = let f = ready_facts _ _ _ c.requires in (run_ready rule_c 104 c_regular c_out c.lowest-view.result.0 (c.loop-view.view - c.lowest-view.result.0) c.loop-view.invariant.1.1.0 c.requires (ready_regular c.args.d _ _ c.requires (draft_typed c.args.d c.well_formed.1.1.0) (λ j. (c.slice_known-1.given j).fits)) (omega (arith, c.lowest-view.ensures, c.highest-last.ensures, f.view_last, c.loop-view-test.true, c.loop-view.invariant.0, c.loop-view.invariant.1.0)) (omega (arith, c.lowest-view.ensures, c.highest-last.ensures, f.view_last, f.view_first, c.loop-view-test.true, c.loop-view.invariant.0, c.loop-view.invariant.1.0)), omega (arith, c.lowest-view.ensures, c.highest-last.ensures, f.view_last, c.loop-view-test.true))
+rule_c-next-requires c = let f = ready_facts _ _ _ c.requires in (run_ready rule_c 104 c_regular c_out c.lowest-view.result.0 (c.loop-view.view - c.lowest-view.result.0) c.loop-view.invariant.1.1.0 c.requires (ready_regular c.args.d _ _ c.requires (search rules) (λ j. (c.slice_known-1.given j).fits)) (omega (arith, c.lowest-view.ensures, c.highest-last.ensures, f.view_last, c.loop-view-test.true, c.loop-view.invariant.0, c.loop-view.invariant.1.0)) (omega (arith, c.lowest-view.ensures, c.highest-last.ensures, f.view_last, f.view_first, c.loop-view-test.true, c.loop-view.invariant.0, c.loop-view.invariant.1.0)), omega (arith, c.lowest-view.ensures, c.highest-last.ensures, f.view_last, c.loop-view-test.true))
 
 pub overflow_add-view : goal.overflow_add-view
 overflow_add-view c = omega (arith, c.loop-view-test.true, c.highest-last.ensures)
