@@ -13,10 +13,10 @@ use lib.ListN.{length, replicate, length-replicate}
 use lib.Dec.{T as Holds}
 use mathlib.Core.Bool.{Bool, not}
 use seplogic.Ra.Ura.{Ura}
-use seplogic.Ra.TreeShare.{full_share}
-use mir.Syntax.{Ty, Body, Opd as Operand, named, ty_array, place, seq, cond}
+use base.Fraction.{full_share}
+use mir.Syntax.{Body, Opd as Operand, named, ty_array, place, seq, cond}
 use mir.Val.{Val, vptr, vbool, has_ty, WT}
-use base.Logic.{ent, emp, id⊢}
+use base.Logic.{ent, id⊢}
 use base.Fml.{Lft, GName, Share, Fml, feq, fsep, fat, froom, flft, flent, fres}
 use prog.Wp.{Env, Calls, Loops, Wp, spot_of, next, after_seq}
 use types.Logic.{Logic}
@@ -27,11 +27,11 @@ use types.SemTy.{Body as Held-body, cells, Arr}
 use types.Share.{arr_parts}
 use types.Tokens.{lft_new, lft_end}
 use denote.RattleType.{RattleType}
-use denote.Laws.{Is, shows, Makes, Typed}
+use denote.Laws.{Is, shows, Makes}
 use denote.Memory.{mem, shares, lone, part_at}
 use denote.Ref.{MutBor, MutRef}
 use denote.Slice.{Room, finally}
-use denote.Array.{Array, array_val, Array-Makes, Array-Lawful, each}
+use denote.Array.{Array, array_val, Array-Makes, each}
 use denote.Shadow.{shadow}
 use denote.ArrayMemory.{Single, Array-apart, Array-whole}
 use denote.Index.{row, whole_in, whole_out}
@@ -69,7 +69,7 @@ module _ {M : Type 1} {𝓤 : Ura M} {𝓛 : Logic 𝓤} {K : Type 0} {Γ : List
   back_local t z R D one {ν} {δ} y b k =
       lft_end t z $ move t (0 ∷ 2 ∷ 1 ∷ []) $
       use3 𝓛 (later (‵ (part_at R full_share y b zero))) (ref_back 𝓛 R (ν ∷ []) δ y b zero) $ await t z $
-      use1 𝓛 (some (λ (v : Val). ‵ (fat full_share (lone R.mir) b zero v) ⊛ ‵ (R.own y (v ∷ [])))) (part_out 𝓛 R one full_share y b zero) $ pick t (λ v. split t $ move t (1 ∷ []) $
+      use1 𝓛 (some (λ (v : Val). ‵ (fat full_share (lone R.mir) b zero v) ⊛ ‵ (R.own_val y (v ∷ [])))) (part_out 𝓛 R one full_share y b zero) $ pick t (λ v. split t $ move t (1 ∷ []) $
       peeks t R (Is R) (shows 𝓛 R) y (v ∷ []) (λ is. drop t $ rewrite t 0 (λ (u : Val). ‵ (fat full_share (lone R.mir) b zero u)) (ap only (D.tells y (v ∷ []) is)) refl $ k (again D y v is)))
 
   pub lend_ref : K → Soaks G → (R : RattleType) {κ : Lft} {q : Share} {γ : GName} (b o : ℕ) (x : R.Denot)
@@ -109,7 +109,7 @@ module _ {M : Type 1} {𝓤 : Ura M} {𝓛 : Logic 𝓤} {K : Type 0} {Γ : List
 
 -- ---- `[v; n]`
 module _ (R : RattleType) (x : R.Denot) (v : Val) (is : Is R x (v ∷ [])) where
-  each_repeated : (n : ℕ) → shadow (each R.Denot R.own (replicate n x) (replicate n v))
+  each_repeated : (n : ℕ) → shadow (each R.Denot R.own_val (replicate n x) (replicate n v))
   each_repeated zero = tt
   each_repeated (suc n) = (is, each_repeated n)
 
