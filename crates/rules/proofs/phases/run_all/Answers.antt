@@ -14,10 +14,10 @@ pub run_c-requires : goal.run_c-requires
 run_c-requires c = ready_c c.requires (ready_regular c.args.d _ _ c.requires (search rules) (λ j. (c.slice_known-1.given j).fits)) c.run_a-a.ensures c.run_b-b.ensures
 
 pub shape_of-mem : goal.shape_of-mem
-shape_of-mem c = omega (arith, c.run_a-a.auto.0, c.run_b-b.auto.0, c.run_c.auto.0)
+shape_of-mem c = omega (arith, c.run_a-a.auto.mem, c.run_b-b.auto.mem, c.run_c.auto.mem)
 
 pub shape_of-out : goal.shape_of-out
-shape_of-out c = omega (arith, c.run_a-a.auto.1.0, c.run_b-b.auto.1.0, c.run_c.auto.1.0)
+shape_of-out c = omega (arith, c.run_a-a.auto.out, c.run_b-b.auto.out, c.run_c.auto.out)
 
 pub returns : goal.returns
 returns c = phases_do c.run_a-a.ensures c.run_b-b.ensures c.run_c.ensures

@@ -26,7 +26,7 @@ pub loop-view-smaller : goal.loop-view-smaller
 loop-view-smaller c = omega (arith, c.loop-view-test.true)
 
 pub loop-view-preserved : goal.loop-view-preserved
-loop-view-preserved c = (omega (arith, c.loop-view.invariant.0), (omega (arith, c.loop-view.invariant.0, c.loop-view-test.true), (run_turn rule_b b_longer c.args.d.counters.view.0 c.loop-view.view c.loop-view.invariant.0 c.loop-view.invariant.1.1.0 c.rule_b-next.ensures, (omega (arith, c.rule_b-next.auto.0, c.loop-view.invariant.1.1.1.0), omega (arith, c.rule_b-next.auto.1.0, c.loop-view.invariant.1.1.1.1)))))
+loop-view-preserved c = (omega (arith, c.loop-view.invariant.0), (omega (arith, c.loop-view.invariant.0, c.loop-view-test.true), (run_turn rule_b b_longer c.args.d.counters.view.0 c.loop-view.view c.loop-view.invariant.0 c.loop-view.invariant.1.1.0 c.rule_b-next.ensures, (omega (arith, c.rule_b-next.auto.mem, c.loop-view.invariant.1.1.1.0), omega (arith, c.rule_b-next.auto.out, c.loop-view.invariant.1.1.1.1)))))
 
 pub shape_of-mem : goal.shape_of-mem
 shape_of-mem c = c.loop-view.invariant.1.1.1.0

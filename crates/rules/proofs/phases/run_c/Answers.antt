@@ -28,7 +28,7 @@ pub loop-view-smaller : goal.loop-view-smaller
 loop-view-smaller c = omega (arith, c.loop-view-test.true)
 
 pub loop-view-preserved : goal.loop-view-preserved
-loop-view-preserved c = (omega (arith, c.loop-view.invariant.0), (omega (arith, c.loop-view.invariant.0, c.loop-view-test.true), (run_turn rule_c c_longer c.lowest-view.result.0 c.loop-view.view c.loop-view.invariant.0 c.loop-view.invariant.1.1.0 c.rule_c-next.ensures, (omega (arith, c.rule_c-next.auto.0, c.loop-view.invariant.1.1.1.0), omega (arith, c.rule_c-next.auto.1.0, c.loop-view.invariant.1.1.1.1)))))
+loop-view-preserved c = (omega (arith, c.loop-view.invariant.0), (omega (arith, c.loop-view.invariant.0, c.loop-view-test.true), (run_turn rule_c c_longer c.lowest-view.result.0 c.loop-view.view c.loop-view.invariant.0 c.loop-view.invariant.1.1.0 c.rule_c-next.ensures, (omega (arith, c.rule_c-next.auto.mem, c.loop-view.invariant.1.1.1.0), omega (arith, c.rule_c-next.auto.out, c.loop-view.invariant.1.1.1.1)))))
 
 pub shape_of-mem : goal.shape_of-mem
 shape_of-mem c = c.loop-view.invariant.1.1.1.0
