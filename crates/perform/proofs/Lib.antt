@@ -1,3 +1,4 @@
+pub mod Typing
 pub mod Completing
 pub mod Storing
 pub mod Deciding

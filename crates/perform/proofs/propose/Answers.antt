@@ -1,4 +1,6 @@
+use Rattle.protocol.specs.Typed.{CountersTyped}
 use borrow.Author.Rules.{rules}
+use Rattle.perform.proofs.Typing.{counters_typed}
 use Rattle.protocol.specs.Events.{on_propose}
 use Rattle.event.specs.Event.{Proposable}
 use Rattle.perform.specs.Perform.{fresh}
@@ -10,7 +12,8 @@ pub on_propose-e-requires : goal.on_propose-e-requires
 on_propose-e-requires c = propose_asks (fresh c.args.c) _ _ c.args.name c.args.below.0 (propose_passes c.args.c _ _ c.args.name c.args.below.0 c.requires) c.requires
 
 pub finish-requires : goal.finish-requires
-finish-requires c = propose_ready (fresh c.args.c) _ _ c.args.name c.args.below.0 (propose_passes c.args.c _ _ c.args.name c.args.below.0 c.requires) c.requires (search rules) (search rules) (λ j. (c.slice_known-1.given j).fits) c.on_propose-e.ensures
+finish-requires c = let typed : CountersTyped c.args.c = counters_typed c.args.c _ c.well_formed.0 in
+    propose_ready (fresh c.args.c) _ _ c.args.name c.args.below.0 (propose_passes c.args.c _ _ c.args.name c.args.below.0 c.requires) c.requires (search rules) typed (λ j. (c.slice_known-1.given j).fits) c.on_propose-e.ensures
 
 pub returns : goal.returns
 returns c = completes (on_propose c.args.name) (Proposable c.args.name c.args.below.0) c.on_propose-e.ensures c.finish.ensures

@@ -1,4 +1,6 @@
+use Rattle.protocol.specs.Typed.{CountersTyped}
 use borrow.Author.Rules.{rules}
+use Rattle.perform.proofs.Typing.{counters_typed}
 use Rattle.event.specs.Event.{Asked}
 use Rattle.perform.specs.Perform.{fresh}
 use Rattle.perform.proofs.Completing.{completes}
@@ -9,7 +11,8 @@ pub on_record-e-requires : goal.on_record-e-requires
 on_record-e-requires c = record_asks (fresh c.args.c) _ _ _ c.args.held (record_passes c.args.c _ _ _ c.args.held c.requires) c.requires (λ j. (c.shared_slice_known-1.given j).fits)
 
 pub finish-requires : goal.finish-requires
-finish-requires c = record_ready (fresh c.args.c) _ _ _ c.args.held (record_passes c.args.c _ _ _ c.args.held c.requires) c.requires (λ j. (c.shared_slice_known-1.given j).fits) (search rules) (λ j. (c.slice_known-1.given j).fits) c.on_record-e.ensures
+finish-requires c = let typed : CountersTyped c.args.c = counters_typed c.args.c _ c.well_formed.0 in
+    record_ready (fresh c.args.c) _ _ _ c.args.held (record_passes c.args.c _ _ _ c.args.held c.requires) c.requires (λ j. (c.shared_slice_known-1.given j).fits) typed (λ j. (c.slice_known-1.given j).fits) c.on_record-e.ensures
 
 pub returns : goal.returns
 returns c = completes _ (Asked _ c.args.held) c.on_record-e.ensures c.finish.ensures

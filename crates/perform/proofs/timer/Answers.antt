@@ -1,4 +1,6 @@
+use Rattle.protocol.specs.Typed.{CountersTyped}
 use borrow.Author.Rules.{rules}
+use Rattle.perform.proofs.Typing.{counters_typed}
 use Rattle.protocol.specs.Events.{on_timer}
 use Rattle.act.proofs.Steps.{ready_less}
 use Rattle.event.specs.Event.{Always}
@@ -11,7 +13,8 @@ pub on_timer-e-requires : goal.on_timer-e-requires
 on_timer-e-requires c = ready_less _ _ _ _ _ (omega arith) (timer_passed c.args.c _ _ c.args.view.0 c.requires)
 
 pub finish-requires : goal.finish-requires
-finish-requires c = timer_ready (fresh c.args.c) _ _ c.args.view.0 (search rules) (search rules) (λ j. (c.slice_known-1.given j).fits) (timer_passed c.args.c _ _ c.args.view.0 c.requires) c.on_timer-e.ensures
+finish-requires c = let typed : CountersTyped c.args.c = counters_typed c.args.c _ c.well_formed.0 in
+    timer_ready (fresh c.args.c) _ _ c.args.view.0 (search rules) typed (λ j. (c.slice_known-1.given j).fits) (timer_passed c.args.c _ _ c.args.view.0 c.requires) c.on_timer-e.ensures
 
 pub returns : goal.returns
 returns c = completes (on_timer c.args.view.0) Always c.on_timer-e.ensures c.finish.ensures
