@@ -1,9 +1,10 @@
 // 01's run program: records on standard input, and a line for each call on standard output.
 // Promises: it is safe on any input, comes to its end, and leaves its replica as 01's run of what it read does (`Program` of specs/Running.antt, proofs/Whole.antt). It
 // goes by turns: bytes are read behind those at hand, `replay` takes the pieces that are known and gives their lines, which are printed, and the rest is kept. That the
-// operating system's calls read and write what they say is assumed; the digits printed are tested. Rests on `replay` and on the kit's `io`.
+// operating system's calls read and write what they say is assumed; the digits printed are tested. Where a read or a write fails, `main` ends with the error. Rests on `replay`.
 #![tactic(auto)]
 
+mod console;
 mod printing;
 mod reading;
 
@@ -15,12 +16,14 @@ ghost use Rattle.replay.specs.Replay.{standing, start, steps};
 ghost use Rattle.run.specs.Running.{empty_block, goes_on, between, Went, Turned, Turns, Program, ProgramWithStore};
 
 use blocks::{Block, STORE_LENGTH};
+use console::Console;
 use counters::{Counters, opened};
 use refusals::regions::OUTPUT_LENGTH;
 use replay::input::{part_of, put_in_turn};
 use replay::lines::LINE;
 use replay::{Place, begin, open_call, run_steps, shallower, start};
 use settings::Height;
+use std::io;
 use wire::length::HEADER;
 
 // The bytes at hand, more than the longest record has, and a line for each record that they can hold.
@@ -81,7 +84,8 @@ fn replay_known(
 }
 
 // More bytes are read, the pieces that are known are taken, their lines are printed, and the rest of the bytes is kept.
-fn take_turn(
+fn take_turn<R: Input + Print>(
+    console: &mut Console<R>,
     counters: &mut Counters,
     mem: &mut [u8],
     store: &mut [Block],
@@ -94,14 +98,15 @@ fn take_turn(
     ensures { Went (between (lent_to counters.old mem.old store.old) out.old buf.old lines.old t)
         (between (lent_to counters.new mem.new store.new) out.new buf.new lines.new result) }
 {
-    let read = reading::refill(buf, t);
+    let read = reading::refill(console, buf, t);
     let p = replay_known(counters, mem, store, out, buf, lines, read);
-    printing::print(lines, p.filled);
+    console.print(lines, p.filled);
     reading::keep(buf, read, p)
 }
 
 // A turn, where the program goes on: otherwise nothing more is read.
-fn next_turn(
+fn next_turn<R: Input + Print>(
+    console: &mut Console<R>,
     counters: &mut Counters,
     mem: &mut [u8],
     store: &mut [Block],
@@ -116,14 +121,15 @@ fn next_turn(
 {
     let going = reading::goes_on(t);
     if going {
-        take_turn(counters, mem, store, out, buf, lines, t)
+        take_turn(console, counters, mem, store, out, buf, lines, t)
     } else {
         t
     }
 }
 
 // Up to 2 ^ level - 1 turns: half of them before the middle one and half after it, as `run_steps`.
-fn run_turns(
+fn run_turns<R: Input + Print>(
+    console: &mut Console<R>,
     counters: &mut Counters,
     mem: &mut [u8],
     store: &mut [Block],
@@ -140,9 +146,11 @@ fn run_turns(
     let going = reading::goes_on(t);
     let b = shallower(level, going);
     if b.goes {
-        let early = run_turns(counters, mem, store, out, buf, lines, b.level, t);
-        let middle = next_turn(counters, mem, store, out, buf, lines, early);
-        run_turns(counters, mem, store, out, buf, lines, b.level, middle)
+        let early = run_turns(console, counters, mem, store, out, buf, lines, b.level, t);
+        let middle = next_turn(console, counters, mem, store, out, buf, lines, early);
+        run_turns(
+            console, counters, mem, store, out, buf, lines, b.level, middle,
+        )
     } else {
         t
     }
@@ -150,7 +158,8 @@ fn run_turns(
 
 // ---- the regions: each as long as a call asks, the bytes at hand, and the lines
 
-fn with_counters(
+fn with_counters<R: Input + Print>(
+    console: &mut Console<R>,
     mem: &mut [u8],
     store: &mut [Block],
     out: &mut [u8],
@@ -160,31 +169,39 @@ fn with_counters(
     requires { (line_length ≤ length lines.old) × (largest ≤ length buf.old) }
     ensures { Program (2 ^ 62 - 1) mem.old store.old out.old lines.old mem.new store.new out.new lines.new result }
 {
-    let o = reading::first_record(buf);
+    let o = reading::first_record(console, buf);
     // the first record is read: until more is, the numbers of the leader list stand in its place
     put_in_turn(buf);
     let mut c = opened();
     let refusal = open_call(&mut c, mem, store, buf, o);
     let p = begin(lines, refusal);
-    printing::print(lines, p.filled);
+    console.print(lines, p.filled);
     let t = first_turn(p);
-    run_turns(&mut c, mem, store, out, buf, lines, 62, t)
+    run_turns(console, &mut c, mem, store, out, buf, lines, 62, t)
 }
 
-fn with_store(mem: &mut [u8], out: &mut [u8], buf: &mut [u8], lines: &mut [u8]) -> Turn
+fn with_store<R: Input + Print>(
+    console: &mut Console<R>,
+    mem: &mut [u8],
+    out: &mut [u8],
+    buf: &mut [u8],
+    lines: &mut [u8],
+) -> Turn
     requires { (line_length ≤ length lines.old) × (largest ≤ length buf.old) }
     ensures { ProgramWithStore (2 ^ 62 - 1) mem.old out.old lines.old mem.new out.new lines.new result }
 {
     let zero = empty_block();
     let mut store = [zero; STORE_LENGTH];
-    with_counters(mem, &mut store, out, buf, lines)
+    with_counters(console, mem, &mut store, out, buf, lines)
 }
 
-fn main() {
+fn main(rt: HostRuntime) -> io::Result<()> {
     let mut mem = [0u8; memory::LENGTH];
     let mut out = [0u8; OUTPUT_LENGTH];
     let mut buf = [0u8; INPUT_LENGTH];
     let mut lines = [0u8; LINES_LENGTH];
-    printing::header();
-    with_store(&mut mem, &mut out, &mut buf, &mut lines);
+    let mut console = Console::new(rt);
+    console.header();
+    with_store(&mut console, &mut mem, &mut out, &mut buf, &mut lines);
+    console.finish()
 }

@@ -4,42 +4,32 @@ ghost use Rattle.replay.specs.Lines.{line_length};
 
 use codec::num::u64_at;
 use replay::lines::LINE;
+use std::io;
 
-fn text(s: &[u8]) {
-    io::write_all(1, s);
+pub fn header(rt: &impl Print) -> io::Result<()> {
+    println!(rt; "call answer view timed height")
 }
 
-fn number(n: u64) {
-    io::print_decimal(1, n);
-}
-
-pub fn header() {
-    text(b"call answer view timed height\n");
-}
-
-fn print_line(line: &[u8])
+fn print_line(rt: &impl Print, line: &[u8]) -> io::Result<()>
     requires { line_length ≤ length line.now }
 {
-    number(u64_at(line, 0));
-    text(b" ");
-    number(u64_at(line, 8));
-    text(b" ");
-    number(u64_at(line, 16));
-    text(b" ");
-    number(u64_at(line, 24));
-    text(b" ");
-    number(u64_at(line, 32));
-    text(b"\n");
+    let call = u64_at(line, 0);
+    let answer = u64_at(line, 8);
+    let view = u64_at(line, 16);
+    let timed = u64_at(line, 24);
+    let height = u64_at(line, 32);
+    println!(rt; "{call} {answer} {view} {timed} {height}")
 }
 
 // The lines in the first bytes of the region, as far as it goes.
-pub fn print(lines: &[u8], filled: usize) {
+pub fn print(rt: &impl Print, lines: &[u8], filled: usize) -> io::Result<()> {
     let mut at = 0;
     while at < filled {
         if lines.len() - at < LINE {
-            return;
+            break;
         }
-        print_line(&lines[at..at + LINE]);
+        print_line(rt, &lines[at..at + LINE])?;
         at += LINE;
     }
+    Ok(())
 }

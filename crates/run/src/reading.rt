@@ -4,26 +4,19 @@ ghost use Rattle.codec.specs.Bytes.{part, patch};
 ghost use Rattle.run.specs.Running.{FirstRead, Refilled, Kept, goes_on};
 
 use crate::Turn;
+use crate::console::Console;
 use replay::input::{OPENING, is_known, opening};
 use replay::{Opening, Place};
 
 // The first record's bytes, or fewer where the input ends before.
-pub fn first_record(buf: &mut [u8]) -> Opening
+pub fn first_record<R: Input + Print>(console: &mut Console<R>, buf: &mut [u8]) -> Opening
     ensures { FirstRead buf.new result }
 {
     if buf.len() < OPENING {
         return opening(&buf[0..0]);
     }
-    let got = io::read_full(0, &mut buf[0..OPENING]);
+    let got = console.read_full(&mut buf[0..OPENING]);
     opening(&buf[0..got])
-}
-
-// One read. It fills what there is room for, or less; nothing comes at the input's end and where a read fails.
-fn read_more(free: &mut [u8]) -> usize
-    ensures { result ≤ length free.new }
-{
-    let got = libc::read(0, free);
-    io::count(got, free)
 }
 
 fn lesser(a: usize, b: usize) -> usize
@@ -33,7 +26,7 @@ fn lesser(a: usize, b: usize) -> usize
 }
 
 // Where the input hasn't ended and the next piece isn't known yet, more is read.
-pub fn refill(buf: &mut [u8], t: Turn) -> Turn
+pub fn refill<R: Input + Print>(console: &mut Console<R>, buf: &mut [u8], t: Turn) -> Turn
     ensures { Refilled t buf.old result buf.new }
 {
     let have = lesser(t.have, buf.len());
@@ -51,7 +44,7 @@ pub fn refill(buf: &mut [u8], t: Turn) -> Turn
             next: t.next,
         };
     }
-    let got = read_more(&mut buf[have..]);
+    let got = console.read(&mut buf[have..]);
     Turn {
         have: have + got,
         ended: got == 0,
