@@ -1,40 +1,55 @@
 // The published vectors (02, 2.5): reads messages, a line of hexadecimal digits each, and writes a line for each: its digest, and the name of the block whose parent is that
 // digest, whose height is the message's length and whose contents are the message. Where the name is refused, the number of the refusal stands in its place; a line that isn't
 // whole bytes gets `-`; one that begins with `#` is written as it is. At most 65,536 bytes are read.
-// Promises: it is safe on any input and comes to its end. What it writes for published messages, in `stdin`, is held to `stdout`. Rests on `digest` and on the kit's `io`.
+// Promises: it is safe on any input and comes to its end. What it writes for published messages, in `stdin`, is held to `stdout`. Where a read or a write fails, it ends with the error. Rests on `digest`.
 #![tactic(auto)]
 
-ghost use Rattle.std.specs.Prelude.{◌*◌, ◌≤◌, length};
+ghost use Rattle.std.specs.Prelude.{◌*◌, ◌≤◌, length, IfOk};
 
 use codec::num::be_at;
-use libc::{STDIN_FILENO, STDOUT_FILENO};
+use std::io;
+use std::io::Read;
+
+// The most bytes that are read.
+const SPACE: usize = 65536;
 
 // What stands for the value of a character that is no digit.
 const NO_DIGIT: u8 = 16;
 
-fn text(s: &[u8]) {
-    io::write_all(STDOUT_FILENO, s);
-}
-
-fn show(digest: [u8; 32]) {
-    io::print_hex(STDOUT_FILENO, be_at(&digest, 0, 8), 16);
-    io::print_hex(STDOUT_FILENO, be_at(&digest, 8, 8), 16);
-    io::print_hex(STDOUT_FILENO, be_at(&digest, 16, 8), 16);
-    io::print_hex(STDOUT_FILENO, be_at(&digest, 24, 8), 16);
-}
-
-fn answer(message: &[u8]) {
-    let digest = digest::sha256(message);
-    show(digest);
-    text(b" ");
-    let named = digest::name(digest, message.len() as u64, message);
-    let name = named.name;
-    if named.refusal == 0 {
-        show(name);
-    } else {
-        io::print_decimal(STDOUT_FILENO, named.refusal);
+// Reads until it is full, or the input ends.
+fn read_full(rt: &impl Input, space: &mut [u8]) -> io::Result<usize>
+    ensures { IfOk result (λ n. n ≤ length space.new) }
+{
+    let mut done = 0;
+    while done < space.len() {
+        let got = rt.reader().read(&mut space[done..])?;
+        if got == 0 {
+            break;
+        }
+        done += got;
     }
-    text(b"\n");
+    Ok(done)
+}
+
+fn show(rt: &impl Print, digest: [u8; 32]) -> io::Result<()> {
+    let first = be_at(&digest, 0, 8);
+    let second = be_at(&digest, 8, 8);
+    let third = be_at(&digest, 16, 8);
+    let last = be_at(&digest, 24, 8);
+    print!(rt; "{first:016x}{second:016x}{third:016x}{last:016x}")
+}
+
+fn answer(rt: &impl Print, message: &[u8]) -> io::Result<()> {
+    let digest = digest::sha256(message);
+    show(rt, digest)?;
+    print!(rt; " ")?;
+    let named = digest::name(digest, message.len() as u64, message);
+    if named.refusal == 0 {
+        show(rt, named.name)?;
+    } else {
+        print!(rt; "{}", named.refusal)?;
+    }
+    println!(rt; "")
 }
 
 // The value of a hexadecimal digit.
@@ -92,18 +107,17 @@ fn is_comment(line: &[u8]) -> bool {
     line[0] == b'#'
 }
 
-fn answer_line(line: &[u8], message: &mut [u8])
+fn answer_line(rt: &impl Print, line: &[u8], message: &mut [u8]) -> io::Result<()>
     requires { length line.now ≤ 2 * length message.old }
 {
     if is_comment(line) {
-        text(line);
-        text(b"\n");
-        return;
+        rt.write_all(line)?;
+        return println!(rt; "");
     }
     if decode(line, message) {
-        answer(&message[..line.len() / 2]);
+        answer(rt, &message[..line.len() / 2])
     } else {
-        text(b"-\n");
+        println!(rt; "-")
     }
 }
 
@@ -122,20 +136,21 @@ fn line_end(s: &[u8], at: usize) -> usize
     i
 }
 
-fn lines(s: &[u8], message: &mut [u8])
+fn lines(rt: &impl Print, s: &[u8], message: &mut [u8]) -> io::Result<()>
     requires { length s.now ≤ 2 * length message.old }
 {
     let mut at = 0;
     while at < s.len() {
         let end = line_end(s, at);
-        answer_line(&s[at..end], message);
+        answer_line(rt, &s[at..end], message)?;
         at = end + 1;
     }
+    Ok(())
 }
 
-fn main() {
-    let mut space = io::large_buffer();
-    let mut message = io::large_buffer();
-    let n = io::read_full(STDIN_FILENO, &mut space);
-    lines(&space[..n], &mut message);
+fn main(rt: HostRuntime) -> io::Result<()> {
+    let mut space = [0u8; SPACE];
+    let mut message = [0u8; SPACE];
+    let n = read_full(&rt, &mut space)?;
+    lines(&rt, &space[..n], &mut message)
 }
