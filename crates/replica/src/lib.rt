@@ -4,7 +4,7 @@
 // `propose_call` of `protocol` say, and with contents `record_call_with` and `propose_call_with`, with the leader by the list that was opened with, of which demand 3 speaks; `hydrangea_decisive` answers what `decisive_call` of `decisive` says,
 // and `hydrangea_name` what `name_call` of `digest` says. No public function has a `requires`. Rests on `judge`, `perform`, `release`, `decisive` and `digest`. A call is judged first, which
 // writes nothing, and what is left of it is done where it is accepted; a call with contents is refused by these, or it is the call without them.
-// They are exported by their own names, hence the prefix: a library that exports `open` would take the place of the C library's.
+// `replica_c` exports them by these names, hence the prefix: a library that exports `open` would take the place of the C library's.
 #![tactic(auto)]
 
 ghost use Rattle.std.specs.Prelude.{◌≡◌, cond, List, [], eqb, length, set};
@@ -147,8 +147,7 @@ fn record_answered(
 }
 
 // A record of any bytes.
-#[unsafe(no_mangle)]
-pub extern "C" fn hydrangea_record(
+pub fn hydrangea_record(
     counters: &mut Counters,
     mem: &mut [u8],
     store: &mut [Block],
@@ -200,8 +199,7 @@ fn record_or(
 }
 
 // A record of any bytes that comes with contents of any bytes (02, 2.5): where these don't refuse it, it is the record without them.
-#[unsafe(no_mangle)]
-pub extern "C" fn hydrangea_record_with(
+pub fn hydrangea_record_with(
     counters: &mut Counters,
     mem: &mut [u8],
     store: &mut [Block],
@@ -274,8 +272,7 @@ fn timer_answered(
 }
 
 // The timer of a view.
-#[unsafe(no_mangle)]
-pub extern "C" fn hydrangea_timer(
+pub fn hydrangea_timer(
     counters: &mut Counters,
     mem: &mut [u8],
     store: &mut [Block],
@@ -350,8 +347,7 @@ fn propose_answered(
 }
 
 // A block of a name is proposed.
-#[unsafe(no_mangle)]
-pub extern "C" fn hydrangea_propose(
+pub fn hydrangea_propose(
     counters: &mut Counters,
     mem: &mut [u8],
     store: &mut [Block],
@@ -406,8 +402,7 @@ fn propose_or(
 }
 
 // A block of a name and of contents is proposed, in the same way.
-#[unsafe(no_mangle)]
-pub extern "C" fn hydrangea_propose_with(
+pub fn hydrangea_propose_with(
     counters: &mut Counters,
     mem: &mut [u8],
     store: &mut [Block],
@@ -487,8 +482,7 @@ fn opening(
 }
 
 // The opening: settings, n, own number and leader list. The store only has to be long enough.
-#[unsafe(no_mangle)]
-pub extern "C" fn hydrangea_open(
+pub fn hydrangea_open(
     counters: &mut Counters,
     mem: &mut [u8],
     store: &[Block],
@@ -508,17 +502,15 @@ pub extern "C" fn hydrangea_open(
     numbered(done.refusal)
 }
 
-// Whose timeout decided it: settings and n, and a record of any bytes. A function of a lower crate isn't exported, so it stands here.
-#[unsafe(no_mangle)]
-pub extern "C" fn hydrangea_decisive(f: u64, c: u64, k: u64, n: u64, rec: &[u8]) -> Decisive
+// Whose timeout decided it: settings and n, and a record of any bytes. All that `replica_c` exports stands here.
+pub fn hydrangea_decisive(f: u64, c: u64, k: u64, n: u64, rec: &[u8]) -> Decisive
     ensures { result ≡ decisive_reply (decisive_call f c k n rec.now) }
 {
     whose(f, c, k, n, rec)
 }
 
 // The name of a block: its parent, its height, and contents of any bytes. It stands here for the same reason.
-#[unsafe(no_mangle)]
-pub extern "C" fn hydrangea_name(parent: Name, height: u64, contents: &[u8]) -> Named
+pub fn hydrangea_name(parent: Name, height: u64, contents: &[u8]) -> Named
     ensures { result ≡ name_reply (name_call parent.bytes height contents.now) }
 {
     let bytes = parent.bytes;
