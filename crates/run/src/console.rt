@@ -1,6 +1,6 @@
 // Standard input and standard output. A read that fails brings nothing, as at the input's end, and after a write that fails nothing more is printed: the run goes on, and
 // the program ends with the error.
-ghost use Rattle.std.specs.Prelude.{◌≤◌, length};
+ghost use Rattle.std.specs.Prelude.{◌≡◌, ◌↔◌, ◌≤◌, IsOk, length};
 
 use crate::printing;
 use std::io;
@@ -15,7 +15,9 @@ pub struct Console<R> {
 }
 
 impl<R: Input + Print> Console<R> {
-    pub fn new(rt: R) -> Console<R> {
+    pub fn new(rt: R) -> Console<R>
+        ensures { IsOk result.input × IsOk result.output }
+    {
         Console {
             rt,
             input: Ok(()),
@@ -51,14 +53,18 @@ impl<R: Input + Print> Console<R> {
         done
     }
 
-    pub fn header(&mut self) {
+    pub fn header(&mut self)
+        ensures { self.new.input ≡ self.old.input }
+    {
         if self.output.is_ok() {
-            self.output = printing::header(&self.rt);
+            self.output = println!(self.rt; "call answer view timed height");
         }
     }
 
     // The lines in the first bytes of the region, as far as it goes.
-    pub fn print(&mut self, lines: &[u8], filled: usize) {
+    pub fn print(&mut self, lines: &[u8], filled: usize)
+        ensures { self.new.input ≡ self.old.input }
+    {
         if self.output.is_ok() {
             self.output = printing::print(&self.rt, lines, filled);
         }
@@ -67,7 +73,9 @@ impl<R: Input + Print> Console<R> {
 
 impl<R: Drop> Console<R> {
     // The error of a read that failed, or else that of a write.
-    pub fn finish(self) -> io::Result<()> {
+    pub fn finish(self) -> io::Result<()>
+        ensures { IsOk result ↔ (IsOk self.input × IsOk self.output) }
+    {
         self.input?;
         self.output
     }

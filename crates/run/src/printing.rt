@@ -6,10 +6,6 @@ use codec::num::u64_at;
 use replay::lines::LINE;
 use std::io;
 
-pub fn header(rt: &impl Print) -> io::Result<()> {
-    println!(rt; "call answer view timed height")
-}
-
 fn print_line(rt: &impl Print, line: &[u8]) -> io::Result<()>
     requires { line_length ≤ length line.now }
 {
