@@ -1,6 +1,6 @@
 //! The proved replica for a Rust host: owned regions, typed answers, typed output.
 //!
-//! The calls are those of the library that `rt staticlib replica` builds from `crates/replica`; `build.rs` has it built
+//! The calls are those of the library that `tools/library` builds from `crates/replica_c`; `build.rs` has it built
 //! where it is missing or older than its sources. Each call is proved to do what `docs/INTERFACE.md` and the definitions
 //! behind it say, on any input and any content of the regions. This crate only lends the regions and reads what comes
 //! back; [`raw`] has the calls as they are. Two touch no replica: [`block_name`] makes a block's name from its contents, and

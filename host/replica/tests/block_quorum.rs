@@ -1,7 +1,5 @@
 //! 02, 2.4 on the library: in every cluster a block certificate takes 01's number of votes, "(n+f+1)/2 rounded up".
 
-use std::process::Command;
-
 use oracle::wire;
 use replica::{Certificate, Content, Name, Refusal, Replica, Settings, View};
 
@@ -79,18 +77,18 @@ fn the_vote_that_completes_it_writes_it() {
 
 /// Whether a function, or one that it calls, has a branch or a loop in what the compiler takes in.
 fn branches(code: &str, function: &str) -> bool {
-    let begin = format!("\"{function}\" ");
-    let body = code.split("(fn-def ").find(|definition| definition.starts_with(&begin)).expect(function);
-    let mut called = body.split("(fnRef \"").skip(1).filter_map(|rest| rest.split('"').next());
-    ["(if ", "(loop ", "(switch "].iter().any(|word| body.contains(word)) || called.any(|called| branches(code, called))
+    let (_, behind) = code.split_once(&format!("[\"{function}\",{{\"lifetimes\":")).expect(function);
+    let body = behind.split("\",{\"lifetimes\":").next().expect("what stands before the next one");
+    let mut called = body.split("{\"Fn\":[\"").skip(1).filter_map(|rest| rest.split('"').next());
+    ["{\"If\":", "\"Loop\"", "{\"Switch\":", "{\"Select\":"].iter().any(|word| body.contains(word))
+        || called.any(|called| branches(code, called))
 }
 
 /// 02, 2.4: "without a branch". A proof can't tell, since a branch for odd sums would give the same number.
 #[test]
 fn no_quorum_is_computed_by_a_branch() {
-    let root = concat!(env!("CARGO_MANIFEST_DIR"), "/../..");
-    let printed = Command::new("rt").args(["mir", "settings"]).current_dir(root).output().expect("rt runs").stdout;
-    let code = String::from_utf8(printed).expect("text");
+    let built = concat!(env!("CARGO_MANIFEST_DIR"), "/../../crates/settings/out/rlib/settings.rlib/toolchain/mir.json");
+    let code = std::fs::read_to_string(built).expect("what `rt ci` and `tools/library` leave of `settings`");
     assert!(branches(&code, "settings::has_from") && branches(&code, "settings::bad_leaders"));
     for function in ["n", "p", "block_quorum", "weak_quorum", "timeout_quorum", "slow_quorum", "fast_quorum"] {
         assert!(!branches(&code, &format!("settings::Settings::{function}")), "{function}");

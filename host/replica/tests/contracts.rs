@@ -4,9 +4,9 @@ use std::fs;
 use std::path::{Path, PathBuf};
 
 /// What only prints, and the program itself: no contract can say what is printed.
-const PRINTING: [&str; 6] = ["main", "header", "number", "print", "print_line", "text"];
+const PRINTING: [&str; 3] = ["main", "print", "print_line"];
 /// The program that runs the published vectors: what it prints is compared, so its reading of hexadecimal lines too.
-const VECTORS: [&str; 8] = ["main", "lines", "answer_line", "is_comment", "decode", "answer", "show", "text"];
+const VECTORS: [&str; 7] = ["main", "lines", "answer_line", "is_comment", "decode", "answer", "show"];
 
 fn root() -> PathBuf {
     Path::new(env!("CARGO_MANIFEST_DIR")).join("../..")
@@ -26,7 +26,7 @@ fn functions(source: &Path) -> Vec<(String, bool)> {
     let code: Vec<&str> = text.lines().map(|line| line.split("//").next().unwrap_or(line)).collect();
     let code = code.join("\n");
     let name = |part: &str| part.split(['(', '<']).next().unwrap_or(part).trim().to_owned();
-    code.split("fn ").skip(1).map(|part| (name(part), part.contains("ensures {"))).collect()
+    code.split("fn ").skip(1).map(|part| (name(part), part.contains("ensures "))).collect()
 }
 
 #[test]
@@ -38,6 +38,6 @@ fn every_function_has_a_contract_but_those_that_print_and_run_vectors() {
     expected.sort_unstable();
     assert_eq!(without, expected);
     let readme = fs::read_to_string(root().join("README.md")).expect("README.md");
-    let said = format!("Of {} functions fourteen have none", all.len());
+    let said = format!("Of {} functions ten have none", all.len());
     assert!(readme.contains(&said), "README should say: {said}");
 }

@@ -1,9 +1,9 @@
 //! A height where the code wants a view, or a view where it wants a height, does not compile: a program over the crates
-//! of the core is taken with the right types, and refused with any one of them exchanged.
+//! of the core is taken with the right types, and with the other ones each of its lines is refused.
 
 use std::fs;
 use std::path::{Path, PathBuf};
-use std::process::Command;
+use std::process::{Command, Stdio};
 
 /// Its lines, each behind the type that is wanted at `KIND`.
 const LINES: [(&str, &str); 7] = [
@@ -15,9 +15,6 @@ const LINES: [(&str, &str); 7] = [
     ("Height", "let child = wire::Child { name: [1u8; 32], parent: [0u8; 32], height: KIND(1) };"),
     ("Height", "let release = wire::Release { view: settings::View(1), name: [1u8; 32], height: KIND(1) };"),
 ];
-
-/// What `rt` says of a program that breaks a rule of the language, whichever.
-const REJECTED: &str = "the front end rejected the crate";
 
 fn root() -> PathBuf {
     Path::new(env!("CARGO_MANIFEST_DIR")).join("../..")
@@ -38,7 +35,7 @@ fn repository() -> Temporary {
     let copy = std::env::temp_dir().join(format!("types-{}", std::process::id()));
     let crates = fs::read_to_string(root().join("crates.txt")).expect("crates.txt");
     let program = crates.lines().find_map(|line| line.strip_prefix("run:")).expect("what the run program rests on");
-    for name in crates.lines().filter_map(|line| line.split_once(':')).map(|(name, _)| name) {
+    for name in crates.lines().filter_map(|line| line.split([' ', ':']).next()) {
         let from = root().join("crates").join(name).join("src");
         let Ok(files) = fs::read_dir(&from) else { continue };
         let to = copy.join("crates").join(name).join("src");
@@ -57,7 +54,8 @@ fn repository() -> Temporary {
 fn tried(repository: &Path, lines: &[String]) -> (bool, String) {
     let program = format!("fn main() {{\n{}}}\n", lines.concat());
     fs::write(repository.join("crates/probe/src/main.rt"), program).expect("a program");
-    let tried = Command::new("rt").args(["try", "probe"]).current_dir(repository).output().expect("rt runs");
+    let folder = repository.join("crates/probe");
+    let tried = Command::new("rt").arg("try").stdin(Stdio::null()).current_dir(folder).output().expect("rt runs");
     let said = [tried.stdout, tried.stderr].concat();
     (tried.status.success(), String::from_utf8_lossy(&said).into_owned())
 }
@@ -69,13 +67,14 @@ fn typed(line: &str, kind: &str) -> String {
 #[test]
 fn a_height_is_no_view_and_a_view_no_height() {
     let repository = repository();
-    let right = LINES.map(|(kind, line)| typed(line, kind));
-    let (taken, said) = tried(&repository.0, &right);
+    let (taken, said) = tried(&repository.0, &LINES.map(|(kind, line)| typed(line, kind)));
     assert!(taken, "{said}");
-    for (place, (kind, line)) in LINES.into_iter().enumerate() {
-        let mut lines = right.clone();
-        lines[place] = typed(line, if kind == "View" { "Height" } else { "View" });
-        let (taken, said) = tried(&repository.0, &lines);
-        assert!(!taken && said.contains(REJECTED), "{}{said}", lines[place]);
+    let other = |kind| if kind == "View" { "Height" } else { "View" };
+    let (taken, said) = tried(&repository.0, &LINES.map(|(kind, line)| typed(line, other(kind))));
+    assert!(!taken && said.trim_end().ends_with("run=none proved=no"), "{said}");
+    for (place, (kind, line)) in (2..).zip(LINES) {
+        let of_line = |error: &&str| error.starts_with(&format!("src/main.rt:{place}:"));
+        let wanted = format!("error[mismatched-types]: expected `{kind}`, found `{}`", other(kind));
+        assert!(said.lines().find(of_line).is_some_and(|error| error.contains(&wanted)), "{line}\n{said}");
     }
 }

@@ -13,7 +13,7 @@ use std::time::{Duration, Instant};
 /// Far more than any input of these tests takes. A program that runs longer is killed, and the test fails.
 const LONGEST_WAIT: Duration = Duration::from_secs(20);
 
-/// A program that the prover's build leaves in `target/bin`.
+/// A program that `rt ci` and `rt run` leave in its crate's `out`.
 pub struct Program {
     pub name: &'static str,
     /// The environment variable that names another file in its place.
@@ -22,9 +22,10 @@ pub struct Program {
 
 impl Program {
     fn path(&self) -> PathBuf {
-        let built = || Path::new(env!("CARGO_MANIFEST_DIR")).join("../../target/bin").join(self.name);
+        let folder = Path::new(env!("CARGO_MANIFEST_DIR")).join("../../crates").join(self.name);
+        let built = || folder.join("out").join(self.name);
         let program = std::env::var_os(self.variable).map_or_else(built, PathBuf::from);
-        let missing = format!("there is no such program, run `rt check {}` first", self.name);
+        let missing = format!("there is no such program, run `rt run < stdin` in crates/{} first", self.name);
         assert!(program.exists(), "{}: {missing}", program.display());
         program
     }
