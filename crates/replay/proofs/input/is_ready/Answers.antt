@@ -4,4 +4,4 @@ pub returns-then-ended : goal.returns-then-ended
 returns-then-ended c = rw c.if-ended.true
 
 pub returns : goal.returns
-returns c = rw (c.if-ended.false, c.is_Known.ensures)
+returns c = rw (c.if-ended.false, c.is_known.ensures)
