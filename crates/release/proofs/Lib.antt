@@ -1,4 +1,3 @@
-pub mod Types
 pub mod Search
 pub mod Regular
 pub mod Putting

@@ -275,21 +275,6 @@ module _ (r : Turn) (m o : List ℕ) (s : List Block) (q : Turn) (m₁ o₁ : Li
           told = λ from old T. rw (← same) (E.told from old (A.told from old T));
         }
 
-  pub ends_off : q.goes ≡ false → Ends r m o s q.at m₁ o₁ s₁
-  ends_off g =
-      let l = A.off g in
-      record {
-        leaves = ap (λ (c : Counters). left (record { counters = c; at = q.at }) m₁ o₁ s₁) (sym (ap (λ (z : Left). z.counters) l)) ∙ l;
-        told = λ from old T. let e : q.tip ≡ (again r.left W).counters.tip = ap (λ (z : Left). z.counters.tip) l in rw (← e) (A.told from old T);
-      }
-
--- from the first turn on, if there is one
-pub ends_yes : (r : Turn) (m o : List ℕ) (s : List Block) (to : ℕ) (m₁ o₁ : List ℕ) (s₁ : List Block) → r.goes ≡ true → Ends r m o s to m₁ o₁ s₁ → EndsIf r m o s to m₁ o₁ s₁
-ends_yes r m o s to m₁ o₁ s₁ h E = record { yes = λ _. E; no = λ f. absurd (true≢false (sym h ∙ f)) }
-
-pub ends_no : (r : Turn) (m o : List ℕ) (s : List Block) → r.goes ≡ false → EndsIf r m o s r.at m o s
-ends_no r m o s h = record { yes = λ t. absurd (true≢false (sym t ∙ h)); no = λ _. (refl, (refl, (refl, refl))) }
-
 -- ---- OTHER COUNTERS OF THE SAME VIEW AND TIP
 abbrev with : Counters → Work → Work
 with c W = record { counters = releasing c (tip W); memory = W.memory; store = W.store; out = W.out }

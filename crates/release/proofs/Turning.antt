@@ -15,7 +15,7 @@ use Rattle.release.specs.Released.{Releases, ReleasedIf, allowed_of, next_turn, 
 use Rattle.release.specs.declared.Target.{Target}
 use Rattle.release.specs.declared.Turn.{Turn}
 use Rattle.release.proofs.Regular.{regular_same}
-use Rattle.release.proofs.Releasing.{may_release, turns_left_lem, turned}
+use Rattle.release.proofs.Releasing.{may_release, turned}
 use Rattle.release.proofs.WrittenTip.{Proper}
 
 module _ (r : Turn) (m o : List ℕ) (s : List Block) (R : Ready (draft_at r) m o (release_length * length (take (block_count_of m) s))) (v : View) (tip : Block) (at : ℕ)
@@ -30,9 +30,6 @@ module _ (r : Turn) (m o : List ℕ) (s : List Block) (R : Ready (draft_at r) m 
 
     pub if_asks : t.is ≡ true → Releases tip at t m o s
     if_asks h = rw (e-tip, e-at) (may_release r m o s R low t low_is e h)
-
-    pub turn_asks : t.is ≡ true → 1 ≤ r.left
-    turn_asks h = turns_left_lem r m o s R low t low_is e h
 
     pub turn_is : (to : ℕ) (m₁ o₁ : List ℕ) (s₁ : List Block) (q : Turn) → Proper t.block → ReleasedIf tip at t m o s to m₁ o₁ s₁ → q ≡ next_turn r t to → Turned r m o s q m₁ o₁ s₁
     turn_is to m₁ o₁ s₁ q P done e₁ = turned r m o s R low t low_is e to m₁ o₁ s₁ q P (rw (← e-tip, ← e-at) done) e₁

@@ -4,23 +4,21 @@ use native.Mathlib.Omega.{arith}
 use mathlib.Core.Path.{◌≡◌, refl, sym, ap, ◌∙◌}
 use mathlib.Core.Bool.{Bool, true, false, cond}
 use mathlib.Core.Logic.{◌⊎◌, inl, inr}
-use mathlib.Core.List.{List, [], ◌∷◌, ◌++◌, append_assoc}
-use borrow.Author.Tests.{lt-ltb, le-ltb, ltb-true, ltb-false}
+use mathlib.Core.List.{List, [], ◌∷◌, ◌++◌}
+use borrow.Author.Tests.{lt-ltb, le-ltb, ltb-true}
 use lib.Dec.{ltb}
 use lib.ListN.{length, length-append}
-use Rattle.walks.proofs.Data.{At}
 use Rattle.codec.specs.Bytes.{part, patch, le_nat, le_bytes}
 use Rattle.codec.specs.Names.{name_length}
 use Rattle.codec.proofs.Laws.{length-patch, part_same, part_before, patch_append}
 use Rattle.codec.proofs.Le.{length-le_bytes, le_nat-le_bytes}
 use Rattle.wire.specs.Fields.{release_length, number_at}
-use Rattle.wire.specs.Encode.{header_bytes, release_bytes, joined}
+use Rattle.wire.specs.Encode.{header_bytes, release_bytes}
 use Rattle.wire.proofs.Lengths.{length_header}
 use Rattle.blocks.specs.declared.Block.{Block}
 use Rattle.blocks.specs.Store.{descends, ancestry, releases}
 use Rattle.blocks.proofs.Linked.{Linked, ancestry_linked, ancestry_last}
-use Rattle.blocks.proofs.Releases.{name_size, length_release, releases_more}
-use Rattle.blocks.proofs.Types.{Blockᴰ, Block-name, Block-parent, Block-height, Height-0}
+use Rattle.blocks.proofs.Releases.{length_release, releases_more}
 use Rattle.release.specs.Released.{last_released, Told}
 
 -- what the type of a block says of it
@@ -28,9 +26,6 @@ pub record Proper (b : Block) : Type 0 where
   pub name : length b.name ≡ name_length
   pub parent : length b.parent ≡ name_length
   pub height : b.height.0 < 256 ^ 8
-
-pub proper : (b : Block) → At Blockᴰ b → Proper b
-proper b is = record { name = name_size b.name (Block-name b is); parent = name_size b.parent (Block-parent b is); height = (Height-0 b.height (Block-height b is)).1 }
 
 -- ---- ONE RECORD: its name and height read back
 module _ (o : List ℕ) (p sender view : ℕ) (x : List ℕ) (h : ℕ) (size : length x ≡ name_length) (fits : p + release_length ≤ length o) where

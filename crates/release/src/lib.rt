@@ -1,7 +1,7 @@
 // Rule D over the lent store: what enough kept votes or commits decide is released, lowest view first, then smaller name, until nothing is left to release.
 // Promises: `lowest_target` finds the pair of `lowest_pair`, and `release_all` leaves what `again` of protocol's specs/Rules.antt says, the bytes behind the
 // written ones as they were. It asks that memory and counters pass refusal 2 and that a release of each held block has room.
-// Rests on `memory`, `blocks`, `counters`, `act` and the shared modules of `walks`. Every decision is a function by value; the others move values.
+// Rests on `memory`, `blocks`, `counters` and `act`. Every decision is a function by value; the others move values.
 #![tactic(auto)]
 
 ghost use Rattle.std.specs.Prelude.{◌≡◌, true, cond, ◌+◌, ◌*◌, ◌^◌, ◌<◌, ◌≤◌, length, take};

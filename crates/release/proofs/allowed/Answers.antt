@@ -1,4 +1,3 @@
-use Rattle.release.proofs.allowed.Lts as lts
 use Rattle.release.proofs.allowed.Goals as goal
 
 pub returns-then-t : goal.returns-then-t

@@ -1,5 +1,4 @@
 use mathlib.Core.Path.{refl}
-use Rattle.release.proofs.at_next_view.Lts as lts
 use Rattle.release.proofs.at_next_view.Goals as goal
 
 pub returns : goal.returns

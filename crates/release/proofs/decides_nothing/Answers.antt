@@ -1,5 +1,4 @@
 use mathlib.Core.Path.{refl}
-use Rattle.release.proofs.decides_nothing.Lts as lts
 use Rattle.release.proofs.decides_nothing.Goals as goal
 
 pub too_few-requires : goal.too_few-requires

@@ -1,4 +1,3 @@
-use Rattle.release.proofs.entries_asked.Lts as lts
 use Rattle.release.proofs.entries_asked.Goals as goal
 
 pub returns-then-some : goal.returns-then-some

@@ -1,4 +1,3 @@
-use Rattle.release.proofs.finished.Lts as lts
 use Rattle.release.proofs.finished.Goals as goal
 
 pub returns : goal.returns

@@ -1,5 +1,4 @@
 use Rattle.release.specs.Search.{first_place}
-use Rattle.release.proofs.first_place.Lts as lts
 use Rattle.release.proofs.first_place.Goals as goal
 
 pub returns : goal.returns

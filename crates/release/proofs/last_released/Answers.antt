@@ -1,7 +1,6 @@
 use mathlib.Core.Path.{refl}
 use Rattle.release.proofs.WrittenTip.{last_none, last_over, last_alone}
 use native.Mathlib.Omega.{arith}
-use Rattle.release.proofs.last_released.Lts as lts
 use Rattle.release.proofs.last_released.Goals as goal
 
 pub returns-then-to-from : goal.returns-then-to-from

@@ -1,6 +1,5 @@
 use Rattle.release.proofs.Search.{some_fast, some_slow}
 use Rattle.release.specs.Search.{look_of}
-use Rattle.release.proofs.look_at.Lts as lts
 use Rattle.release.proofs.look_at.Goals as goal
 
 pub find_decided-x-requires : goal.find_decided-x-requires

@@ -1,5 +1,4 @@
 use Rattle.release.specs.Search.{next_name}
-use Rattle.release.proofs.next_name.Lts as lts
 use Rattle.release.proofs.next_name.Goals as goal
 
 pub returns-then-l : goal.returns-then-l

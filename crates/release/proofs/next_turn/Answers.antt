@@ -1,4 +1,3 @@
-use Rattle.release.proofs.next_turn.Lts as lts
 use Rattle.release.proofs.next_turn.Goals as goal
 
 pub overflow_sub-result : goal.overflow_sub-result

@@ -1,6 +1,5 @@
 use Rattle.release.specs.Search.{next_view}
 use borrow.Author.Tests.{lt-ltb, le-ltb}
-use Rattle.release.proofs.next_view.Lts as lts
 use Rattle.release.proofs.next_view.Goals as goal
 
 pub returns-then-p-gt0 : goal.returns-then-p-gt0

@@ -4,7 +4,6 @@ use Rattle.release.specs.declared.Place.{Place}
 use Rattle.release.specs.Search.{passed}
 use Rattle.release.proofs.Search.{pass_on, pass_stop, pass_end}
 use native.Mathlib.Omega.{arith}
-use Rattle.release.proofs.pass_views.Lts as lts
 use Rattle.release.proofs.pass_views.Goals as goal
 
 pub loop-p-init : goal.loop-p-init

@@ -1,7 +1,6 @@
 use Prim.Native.Nat.{◌+◌, ◌^◌, ◌<◌}
 use mathlib.Core.Path.{◌≡◌}
 use Rattle.release.specs.Search.{passed}
-use Rattle.release.proofs.pass_views.Lts as lts
 use Rattle.release.proofs.pass_views.Given as goal
 
 abbrev pub invariant-loop-p : goal.invariant-loop-p

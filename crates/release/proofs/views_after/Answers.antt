@@ -1,7 +1,6 @@
 use mathlib.Core.Path.{refl, sym, ◌∙◌}
 use Rattle.release.proofs.Search.{after_on, after_stop, after_end}
 use native.Mathlib.Omega.{arith}
-use Rattle.release.proofs.views_after.Lts as lts
 use Rattle.release.proofs.views_after.Goals as goal
 
 pub loop-k-init : goal.loop-k-init

@@ -1,7 +1,6 @@
 use Prim.Native.Nat.{◌≤◌}
 use mathlib.Core.Path.{◌≡◌}
 use Rattle.release.specs.Search.{views_after}
-use Rattle.release.proofs.views_after.Lts as lts
 use Rattle.release.proofs.views_after.Given as goal
 
 abbrev pub invariant-loop-k : goal.invariant-loop-k
