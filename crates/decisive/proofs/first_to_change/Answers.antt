@@ -17,9 +17,9 @@ loop-i-init c = (refl, search rules, rw sub-zero)
 pub returns-then-not-same : goal.returns-then-not-same
 returns-then-not-same c = let p = c.requires.1 in
     let safe-without : c.safe_block.result ≡ safe_block c.args.s (others c.args.rec.now c.args.count c.loop-i.i) =
-        c.safe_block.ensures
-        ∙ ap (λ (t : List ℕ). safe_block c.args.s (first_timeouts t (c.args.count - 1))) c.leave_out.ensures
-        ∙ ap (safe_block c.args.s) (copied _ _ _ _ c.loop-i-test.true p.1.1.0 (omega (arith, p.0, c.loop-i.invariant.0))) in
+    c.safe_block.ensures
+    ∙ ap (λ (t : List ℕ). safe_block c.args.s (first_timeouts t (c.args.count - 1))) c.leave_out.ensures
+    ∙ ap (safe_block c.args.s) (copied _ _ _ _ c.loop-i-test.true p.1.1.0 (omega (arith, p.0, c.loop-i.invariant.0))) in
     let p = c.requires.1.1 in
     c.named.ensures
     ∙ ap (λ (w : Whose). reply_of (accepts w)) (ap named c.u16_at.ensures
@@ -28,9 +28,9 @@ returns-then-not-same c = let p = c.requires.1 in
 pub loop-i-preserved : goal.loop-i-preserved
 loop-i-preserved c = let p = c.requires.1 in
     let safe-without : c.safe_block.result ≡ safe_block c.args.s (others c.args.rec.now c.args.count c.loop-i.i) =
-        c.safe_block.ensures
-        ∙ ap (λ (t : List ℕ). safe_block c.args.s (first_timeouts t (c.args.count - 1))) c.leave_out.ensures
-        ∙ ap (safe_block c.args.s) (copied _ _ _ _ c.loop-i-test.true p.1.1.0 (omega (arith, p.0, c.loop-i.invariant.0))) in
+    c.safe_block.ensures
+    ∙ ap (λ (t : List ℕ). safe_block c.args.s (first_timeouts t (c.args.count - 1))) c.leave_out.ensures
+    ∙ ap (safe_block c.args.s) (copied _ _ _ _ c.loop-i-test.true p.1.1.0 (omega (arith, p.0, c.loop-i.invariant.0))) in
     let p = c.requires.1.1 in
     (ap length c.leave_out.ensures ∙ length-left_out _ _ _ _ ∙ c.loop-i.invariant.0, omega arith, c.loop-i.invariant.2 ∙ goes_on_lem _ _ c.args.rec.now _ _ p.1.1.0 c.loop-i-test.true p.0 safe-without p.1.1.1 c.same.ensures (c.if-not-same.false))
 

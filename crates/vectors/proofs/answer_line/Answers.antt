@@ -5,4 +5,3 @@ use Rattle.vectors.proofs.answer_line.Goals as goal
 
 pub slice_bounds-answer-end-then-decode : goal.slice_bounds-answer-end-then-decode
 slice_bounds-answer-end-then-decode c = sym (length-take-le _ _ (search rules))
-

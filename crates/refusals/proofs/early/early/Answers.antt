@@ -48,17 +48,17 @@ returns-then-kind-eq8 c = rw (← c.u16_at-kind.ensures, c.if-kind-eq8.true) c.b
 
 pub certificate_early-requires : goal.certificate_early-requires
 certificate_early-requires c = let is-certificate : (certificate_length c.args.rec.now ≡ false) × (certificate_kind_bad c.args.rec.now ≡ false) = let e = c.u16_at-kind.ensures in (
-      whole_certificate _ c.requires.1.1.1.0 (λ k. c.if-kind-eq1.false (e ∙ k)) (λ k. c.if-kind-eq2.false (e ∙ k)) (λ k. c.if-kind-eq5.false (e ∙ k)) (λ k. c.if-kind-eq7.false (e ∙ k)) (λ k. c.if-kind-eq8.false (e ∙ k)),
-      certificate_kind _ c.requires.1.1.1.1 (λ k. c.if-kind-eq1.false (e ∙ k)) (λ k. c.if-kind-eq2.false (e ∙ k)) (λ k. c.if-kind-eq5.false (e ∙ k)) (λ k. c.if-kind-eq7.false (e ∙ k)) (λ k. c.if-kind-eq8.false (e ∙ k)),
-    ) in
+  whole_certificate _ c.requires.1.1.1.0 (λ k. c.if-kind-eq1.false (e ∙ k)) (λ k. c.if-kind-eq2.false (e ∙ k)) (λ k. c.if-kind-eq5.false (e ∙ k)) (λ k. c.if-kind-eq7.false (e ∙ k)) (λ k. c.if-kind-eq8.false (e ∙ k)),
+  certificate_kind _ c.requires.1.1.1.1 (λ k. c.if-kind-eq1.false (e ∙ k)) (λ k. c.if-kind-eq2.false (e ∙ k)) (λ k. c.if-kind-eq5.false (e ∙ k)) (λ k. c.if-kind-eq7.false (e ∙ k)) (λ k. c.if-kind-eq8.false (e ∙ k)),
+) in
     (omega (arith, c.requires.0), is-certificate)
 
 pub returns : goal.returns
 unfolding content early_rules
 returns c = let is-certificate : (certificate_length c.args.rec.now ≡ false) × (certificate_kind_bad c.args.rec.now ≡ false) = let e = c.u16_at-kind.ensures in (
-      whole_certificate _ c.requires.1.1.1.0 (λ k. c.if-kind-eq1.false (e ∙ k)) (λ k. c.if-kind-eq2.false (e ∙ k)) (λ k. c.if-kind-eq5.false (e ∙ k)) (λ k. c.if-kind-eq7.false (e ∙ k)) (λ k. c.if-kind-eq8.false (e ∙ k)),
-      certificate_kind _ c.requires.1.1.1.1 (λ k. c.if-kind-eq1.false (e ∙ k)) (λ k. c.if-kind-eq2.false (e ∙ k)) (λ k. c.if-kind-eq5.false (e ∙ k)) (λ k. c.if-kind-eq7.false (e ∙ k)) (λ k. c.if-kind-eq8.false (e ∙ k)),
-    ) in
+  whole_certificate _ c.requires.1.1.1.0 (λ k. c.if-kind-eq1.false (e ∙ k)) (λ k. c.if-kind-eq2.false (e ∙ k)) (λ k. c.if-kind-eq5.false (e ∙ k)) (λ k. c.if-kind-eq7.false (e ∙ k)) (λ k. c.if-kind-eq8.false (e ∙ k)),
+  certificate_kind _ c.requires.1.1.1.1 (λ k. c.if-kind-eq1.false (e ∙ k)) (λ k. c.if-kind-eq2.false (e ∙ k)) (λ k. c.if-kind-eq5.false (e ∙ k)) (λ k. c.if-kind-eq7.false (e ∙ k)) (λ k. c.if-kind-eq8.false (e ∙ k)),
+) in
     let no-release : c.u16_at-kind.result ≡ 9 → ⊥ = λ k. let e = c.u16_at-kind.ensures in
     let six = certificate_other _ is-certificate.1 (λ z. omega (arith, e, k, z)) in
     omega (arith, e, k, six) in
