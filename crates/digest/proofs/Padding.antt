@@ -14,7 +14,7 @@ use Rattle.codec.specs.Bytes.{IsBytes, part, patch}
 use Rattle.codec.proofs.Laws.{patch_append, patch_whole}
 use Rattle.codec.proofs.Le.{bytes_append}
 use Rattle.digest.specs.declared.Words.{Words}
-use Rattle.digest.specs.Sha256.{◌!◌, words, compress, blocks, absorb, be_bytes, spell, digest, sha256, zeros, padding}
+use Rattle.digest.specs.Sha256.{◌!◌, compress, blocks, absorb, be_bytes, spell, digest, sha256, zeros, padding}
 use Rattle.digest.specs.Laws.{PaddingSolves, PaddingIsLeast, WholeBlocks, DigestIsName}
 
 -- ---- blocks

@@ -1,19 +1,17 @@
 -- The code's turns are the schedule and the rounds. Assumes nothing.
 use mathlib.Core.Path.{◌≡◌, refl, sym, ap, subst, ◌∙◌}
-use mathlib.Core.List.{List, [], ◌∷◌, ◌++◌}
-use Prim.Native.Nat.{ℕ, zero, suc, ◌+◌, ◌*◌, ◌-◌, ◌≤◌, ◌<◌}
+use mathlib.Core.List.{List}
+use Prim.Native.Nat.{ℕ, zero, suc, ◌+◌, ◌-◌, ◌≤◌, ◌<◌}
 use native.Mathlib.Numerals.{add-one}
 use native.Mathlib.Nat.{add-zero, zero-add}
 use native.Mathlib.Omega.{arith}
-use lib.ListN.{length, take, drop, set, replicate, length-append, length-set, get_or-append}
+use lib.ListN.{length, take, drop, set, replicate, length-set}
 use lib.Dec.{lit≤}
 use lib.Seq.{get_or-take, get_or-set_same, length-take-le}
-use Rattle.codec.specs.Bytes.{be_nat, part}
-use Rattle.codec.proofs.Laws.{part-drop}
 use Rattle.digest.specs.declared.Words.{Words}
 use Rattle.digest.specs.Sha256.{◌!◌, words, next, extend, schedule, round, rounds}
 use Rattle.digest.specs.Turns.{Run, run, word_of, turn, turns}
-use Rattle.digest.proofs.Schedule.{first_words, extend_keeps, words_turn, extend_turn, length-words, length-schedule, rounds_turn, rounds_end}
+use Rattle.digest.proofs.Schedule.{first_words, extend_keeps, words_turn, extend_turn, length-schedule, rounds_turn, rounds_end}
 
 -- turns in a row
 pub turns_add : (f : ℕ → List ℕ → ℕ) (k : List ℕ) (t n j : ℕ) (r : Run) → turns f k t (n + j) r ≡ turns f k (t + n) j (turns f k t n r)

@@ -1,15 +1,15 @@
 -- Reading back: what is written is read, and what the place "shape" accepts is the encoding of what it reads as. Assumes nothing.
 use mathlib.Core.Path.{◌≡◌, refl, sym, ap, ◌∙◌}
 use mathlib.Core.Logic.{◌↔◌}
-use mathlib.Core.Bool.{Bool, true, false, not}
+use mathlib.Core.Bool.{not}
 use mathlib.Core.List.{List, [], ◌∷◌}
 use Prim.Native.Nat.{ℕ}
 use lib.Dec.{eqb}
-use lib.ListN.{length, drop}
+use lib.ListN.{length}
 use Rattle.settings.specs.Answer.{accepts, ◌⇒◌}
 use Rattle.codec.specs.Bytes.{IsBytes}
 use Rattle.wire.specs.Fields.{release_length, kind_of, sender_of, view_of, name_of, release_height_of}
-use Rattle.wire.specs.Content.{certificate_of, Content, release, content, decode}
+use Rattle.wire.specs.Content.{Content, release, content, decode}
 use Rattle.wire.specs.Encode.{encode}
 use Rattle.wire.specs.Shape.{frame_bad, shape_rules, shape_of, release_shape}
 use Rattle.wire.specs.Fit.{Fits, Proper}

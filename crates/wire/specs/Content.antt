@@ -1,5 +1,5 @@
 -- What a record says (01: Records). `content` reads any bytes; it means something where the place "shape" accepts them. Assumes nothing.
-use Rattle.std.specs.Prelude.{ℕ, ◌+◌, ◌*◌, ◌≤◌, Bool, cond, List, [], ◌∷◌, map, eqb, length, drop}
+use Rattle.std.specs.Prelude.{ℕ, ◌+◌, ◌*◌, ◌≤◌, cond, List, map, eqb, length, drop}
 use Rattle.settings.specs.Answer.{Answer, judge}
 use Rattle.codec.specs.Bytes.{part}
 use Rattle.codec.specs.Names.{name_length}

@@ -1,5 +1,5 @@
 use mathlib.Core.Path.{refl, sym, ◌∙◌}
-use Prim.Native.Nat.{◌+◌, ◌-◌}
+use Prim.Native.Nat.{◌+◌}
 use native.Mathlib.Nat.{add-zero, sub-zero}
 use lib.ListN.{length-set}
 use Rattle.codec.proofs.Laws.{clear_turn, clear_end}

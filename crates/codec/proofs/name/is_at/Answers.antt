@@ -4,7 +4,7 @@ use Rattle.codec.proofs.Laws.{length-part, part-part}
 use Rattle.codec.proofs.Le.{bytes_part}
 use Rattle.codec.proofs.Wordwise.{part_le, turn_same, turn_other, turns_end}
 use mathlib.Core.Path.{◌≡◌, refl, sym, ap, ◌∙◌}
-use Prim.Native.Nat.{◌+◌, ◌-◌, ◌≤◌}
+use Prim.Native.Nat.{◌+◌, ◌≤◌}
 use lib.ListN.{length}
 use borrow.Author.Rules.{rules}
 use native.Mathlib.Omega.{arith}

@@ -1,5 +1,5 @@
 use mathlib.Core.Path.{◌≡◌}
-use Prim.Native.Nat.{◌-◌, ◌%◌, ◌≤◌}
+use Prim.Native.Nat.{◌%◌, ◌≤◌}
 use lib.ListN.{drop}
 use Rattle.codec.specs.Names.{less_bytes}
 use Rattle.codec.proofs.name.less.Given as goal

@@ -2,7 +2,7 @@ use Rattle.codec.proofs.Wordwise.{part_be, turn_same, turn_other, turns_end}
 use Rattle.codec.specs.Bytes.{be_nat}
 use Rattle.codec.proofs.Arrays.{array_bytes}
 use mathlib.Core.Path.{◌≡◌, refl, sym, ap, ◌∙◌}
-use Prim.Native.Nat.{◌+◌, ◌-◌, ◌≤◌}
+use Prim.Native.Nat.{◌+◌, ◌≤◌}
 use lib.ListN.{length}
 use borrow.Author.Rules.{rules}
 use native.Mathlib.Omega.{arith}

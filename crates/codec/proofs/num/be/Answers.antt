@@ -1,7 +1,7 @@
 use Rattle.codec.proofs.Be.{be_from_turn, be_from_end, below_turn, below_most}
 use lib.Dec.{lit<}
 use mathlib.Core.Path.{refl, sym, ◌∙◌}
-use Prim.Native.Nat.{◌-◌, ◌<◌}
+use Prim.Native.Nat.{◌<◌}
 use lib.ListN.{get_or}
 use borrow.Author.Rules.{rules}
 use native.Mathlib.Omega.{arith}

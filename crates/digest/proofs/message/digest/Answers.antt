@@ -1,5 +1,5 @@
 use mathlib.Core.List.{[], ◌∷◌, List}
-use Prim.Native.Nat.{◌+◌, ℕ, ◌*◌, ◌-◌}
+use Prim.Native.Nat.{◌+◌, ℕ, ◌*◌}
 use mathlib.Core.Path.{refl, sym, ap, ◌∙◌}
 use lib.ListN.{length, drop}
 use Rattle.codec.specs.Bytes.{patch}

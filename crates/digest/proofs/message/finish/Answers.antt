@@ -1,6 +1,6 @@
 use mathlib.Core.Path.{refl, ap, ◌∙◌}
 use mathlib.Core.List.{List, ◌++◌}
-use Prim.Native.Nat.{ℕ, ◌+◌, ◌-◌}
+use Prim.Native.Nat.{ℕ, ◌+◌}
 use lib.ListN.{length, drop, length-drop}
 use Rattle.codec.proofs.Laws.{part_lent, part_rest, length-part}
 use Rattle.digest.specs.declared.Words.{Words}
