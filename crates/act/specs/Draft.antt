@@ -1,6 +1,6 @@
 -- How a draft (counters so far, bytes written so far), the lent memory and the output region stand for a replica at work (`Work` of protocol), whatever
 -- its store is; and what has to hold of them before a step. Assumes nothing.
-use Rattle.std.specs.Prelude.{ℕ, ◌+◌, ◌≤◌, ◌≡◌, true, cond, List, ◌++◌, length, take, drop}
+use Rattle.std.specs.Prelude.{ℕ, ◌+◌, ◌≤◌, ◌≡◌, true, cond, List, [], ◌++◌, length, take, drop}
 use Rattle.wire.specs.declared.Carried.{Carried}
 use Rattle.wire.specs.declared.Timeout.{Timeout}
 use Rattle.certificate.specs.declared.Certificate.{Certificate}

@@ -1,5 +1,5 @@
 -- The place of an entry, one step of the walk from parent to parent and of the drop, and the verdicts of a drop. Assumes nothing.
-use Rattle.std.specs.Prelude.{◌≡◌, ℕ, suc, ◌+◌, ◌-◌, ◌^◌, Bool, false, cond, ◌&&◌, List, ◌∷◌, ltb, drop, get_or}
+use Rattle.std.specs.Prelude.{◌≡◌, ℕ, suc, ◌+◌, ◌-◌, ◌^◌, Bool, false, cond, ◌&&◌, List, [], ◌∷◌, ltb, drop, get_or}
 use Rattle.codec.specs.Names.{same_bytes}
 use Rattle.certificate.specs.Safe.{signs}
 use Rattle.blocks.specs.Store.{genesis, below, descends, only}

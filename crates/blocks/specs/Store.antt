@@ -1,6 +1,6 @@
 -- The store of blocks: search, ancestry, releases, drop (01: The box, rule D; How each place should look). A store here is the list of the
 -- held entries. Everything is total: on any content, names twice included, a name means the first entry of that name. Assumes nothing.
-use Rattle.std.specs.Prelude.{ℕ, zero, suc, Bool, true, false, cond, ◌&&◌, List, ◌∷◌, ◌++◌, map, ltb, length, take, drop}
+use Rattle.std.specs.Prelude.{ℕ, zero, suc, Bool, true, false, cond, ◌&&◌, List, [], ◌∷◌, ◌++◌, map, ltb, length, take, drop}
 use Rattle.codec.specs.Names.{same_bytes, zero_name}
 use Rattle.wire.specs.Encode.{release_bytes, joined}
 use Rattle.blocks.specs.declared.Block.{Block}

@@ -1,5 +1,5 @@
 -- What the laws of the order, of adopting and of the safe certificate speak of (01: Rank and safe block; The box). Assumes nothing.
-use Rattle.std.specs.Prelude.{ℕ, suc, ◌≤◌, ◌<◌, ◌≡◌, Bool, true, false, cond, List, ◌∷◌}
+use Rattle.std.specs.Prelude.{ℕ, suc, ◌≤◌, ◌<◌, ◌≡◌, Bool, true, false, cond, List, [], ◌∷◌}
 use Rattle.settings.specs.declared.Settings.{Settings}
 use Rattle.settings.specs.Quorum.{replicas, weak_quorum}
 use Rattle.wire.specs.declared.Timeout.{Timeout}

@@ -1,6 +1,6 @@
 -- What owning an array of bytes tells: its elements are bytes. Assumes nothing.
 use Prim.Native.Nat.{ℕ, zero, suc}
-use mathlib.Core.List.{List, ◌∷◌}
+use mathlib.Core.List.{List, [], ◌∷◌}
 use lib.Dec.{lit<}
 use mir.Val.{Val}
 use denote.Builtin.{u8}

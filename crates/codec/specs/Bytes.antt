@@ -1,5 +1,5 @@
 -- A part of a list of bytes and a list with a part replaced; numbers as little-endian bytes (01: Records), and as big-endian ones, by which names are compared. Assumes nothing.
-use Rattle.std.specs.Prelude.{ℕ, zero, suc, ◌+◌, ◌*◌, ◌/◌, ◌%◌, ◌<◌, List, ◌∷◌, take, drop, set, get_or}
+use Rattle.std.specs.Prelude.{ℕ, zero, suc, ◌+◌, ◌*◌, ◌/◌, ◌%◌, ◌<◌, List, [], ◌∷◌, take, drop, set, get_or}
 
 -- every element is a byte
 abbrev pub IsBytes : List ℕ → Type 0

@@ -1,5 +1,5 @@
 -- Names: 32 bytes, compared byte by byte (01: Records). The comparison is defined on byte lists of any length. Assumes nothing.
-use Rattle.std.specs.Prelude.{ℕ, Bool, true, false, ◌&&◌, ◌||◌, List, ◌∷◌, eqb, ltb, replicate}
+use Rattle.std.specs.Prelude.{ℕ, Bool, true, false, ◌&&◌, ◌||◌, List, [], ◌∷◌, eqb, ltb, replicate}
 
 abbrev pub name_length : ℕ
 name_length = 32

@@ -1,5 +1,5 @@
 -- Whose timeout decided it (02, 2.3): of a list of timeouts, and as a call over settings and a record. Assumes nothing.
-use Rattle.std.specs.Prelude.{ℕ, Bool, cond, not, ◌&&◌, ◌||◌, List, ◌∷◌, map, eqb, leb, length}
+use Rattle.std.specs.Prelude.{ℕ, Bool, cond, not, ◌&&◌, ◌||◌, List, [], ◌∷◌, map, eqb, leb, length}
 use Rattle.settings.specs.declared.Settings.{Settings}
 use Rattle.settings.specs.Answer.{Answer, Rule, ◌⇒◌, judge}
 use Rattle.settings.specs.Quorum.{timeout_quorum, last_view}

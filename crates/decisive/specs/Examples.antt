@@ -1,6 +1,6 @@
 -- Examples in the cluster of six, where a certificate needs four timeouts and two equal high votes build a weak certificate (01: Known results): timeouts of
 -- view 3, from replica 0 on. Assumes nothing.
-use Rattle.std.specs.Prelude.{ℕ, ◌≡◌, List, ◌∷◌, replicate}
+use Rattle.std.specs.Prelude.{ℕ, ◌≡◌, List, [], ◌∷◌, replicate}
 use Rattle.settings.specs.Answer.{accepts}
 use Rattle.codec.specs.Names.{name_length}
 use Rattle.wire.specs.declared.Vote.{Vote}

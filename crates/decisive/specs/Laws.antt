@@ -1,5 +1,5 @@
 -- What is proved of the call (02, 2.3): its refusals, and what its answer says of the record. Assumes nothing.
-use Rattle.std.specs.Prelude.{ℕ, suc, ◌≤◌, ◌<◌, true, ◌≡◌, List, ◌∷◌, length}
+use Rattle.std.specs.Prelude.{ℕ, suc, ◌≤◌, ◌<◌, true, ◌≡◌, List, [], ◌∷◌, length}
 use Rattle.settings.specs.declared.Settings.{Settings}
 use Rattle.settings.specs.Answer.{accepts, refuses}
 use Rattle.settings.specs.Quorum.{replicas, timeout_quorum}

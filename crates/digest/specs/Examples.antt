@@ -1,5 +1,5 @@
 -- Published messages and their digests, and the name of a block, which the prover computes. Assumes nothing.
-use Rattle.std.specs.Prelude.{ℕ, ◌≡◌, List, ◌∷◌, replicate}
+use Rattle.std.specs.Prelude.{ℕ, ◌≡◌, List, [], ◌∷◌, replicate}
 use Rattle.settings.specs.Answer.{accepts, refuses}
 use Rattle.codec.specs.Names.{zero_name}
 use Rattle.digest.specs.Sha256.{be_bytes, sha256}

@@ -1,5 +1,5 @@
 -- The name of a block (02, 2.5), and the call that makes it. Assumes nothing.
-use Rattle.std.specs.Prelude.{ℕ, Bool, List, ◌∷◌, ◌++◌, ltb, length}
+use Rattle.std.specs.Prelude.{ℕ, Bool, List, [], ◌∷◌, ◌++◌, ltb, length}
 use Rattle.settings.specs.Answer.{Answer, accepts, refuses, judge, ◌⇒◌}
 use Rattle.codec.specs.Bytes.{le_bytes}
 use Rattle.codec.specs.Names.{zero_name}

@@ -1,12 +1,12 @@
 -- The lists of 01's table, cut where the store is first asked: the early part and then the late part judge as the whole. Assumes nothing.
 use mathlib.Core.Path.{◌≡◌, refl, ap}
 use mathlib.Core.Bool.{Bool, true, false, cond, not, ◌&&◌, ◌||◌}
-use mathlib.Core.List.{List, ◌∷◌, ◌++◌}
+use mathlib.Core.List.{List, [], ◌∷◌, ◌++◌}
 use lib.ListN.{take, drop}
 use Prim.Native.Nat.{ℕ, suc}
 use borrow.Author.Tests.{eq-eqb}
 use lib.Dec.{eqb, ltb}
-use Rattle.settings.specs.Answer.{Rule, ◌⇒◌}
+use Rattle.settings.specs.Answer.{Rule, ◌⇒◌, judge}
 use Rattle.settings.specs.Quorum.{last_height}
 use Rattle.codec.specs.Names.{same_bytes}
 use Rattle.codec.proofs.Order.{same_refl, same_eq}

@@ -1,5 +1,5 @@
 -- 16 and 17 as the code finds them (02, 2.5): each where no rule before it applies, or else 0. Assumes nothing.
-use Rattle.std.specs.Prelude.{ℕ, suc, cond, not, List, ◌∷◌, eqb, leb}
+use Rattle.std.specs.Prelude.{ℕ, suc, cond, not, List, [], ◌∷◌, eqb, leb}
 use Rattle.settings.specs.Answer.{Rule, ◌⇒◌}
 use Rattle.settings.specs.Quorum.{replicas}
 use Rattle.codec.specs.Names.{same_bytes}

@@ -1,6 +1,6 @@
 -- The refusals that ask the store (01: Refusals, 10 to 14), with what was looked up: `found` under the block's name, `under` under the name of
 -- the block below it. Assumes nothing.
-use Rattle.std.specs.Prelude.{ℕ, suc, Bool, not, ◌&&◌, ◌||◌, List, ◌∷◌, ◌++◌, eqb, ltb, leb, take}
+use Rattle.std.specs.Prelude.{ℕ, suc, Bool, not, ◌&&◌, ◌||◌, List, [], ◌∷◌, ◌++◌, eqb, ltb, leb, take}
 use Rattle.settings.specs.Answer.{Rule, ◌⇒◌}
 use Rattle.settings.specs.Quorum.{last_height}
 use Rattle.codec.specs.Names.{same_bytes}

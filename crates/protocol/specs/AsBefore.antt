@@ -1,7 +1,7 @@
 -- AS BEFORE. 02, 2.1: "With regions long enough, the list 0 to n−1 must behave exactly as today": an opening with that list answers as one that asks for no
 -- list, and every list of calls from there gives what it gives by 01's rule of the leader. 2.5: a record or a propose that comes without contents is the call of 01's
 -- list of refusals. That all hold is proofs/call/AsBefore.antt and Contents.antt. Assumes nothing.
-use Rattle.std.specs.Prelude.{ℕ, ◌≡◌, List}
+use Rattle.std.specs.Prelude.{ℕ, ◌≡◌, List, []}
 use Rattle.settings.specs.declared.Settings.{Settings}
 use Rattle.settings.specs.Answer.{accepts, Rule, judge}
 use Rattle.settings.specs.Opening.{opening_rules, in_turn}

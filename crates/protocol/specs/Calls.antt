@@ -1,7 +1,7 @@
 -- THE CALLS: opening, record, timer, propose, for every input (01: The box; Refusals). The core gives a refusal, or the replica's next state and the
 -- bytes written; the outcome puts them into the lent regions. Record and propose ask who leads a view: by which rule is an argument of them, `by_list` (02, 2.1)
 -- in the code. Both may come with contents (02, 2.5): `record_call_with` and `propose_call_with`. Assumes nothing.
-use Rattle.std.specs.Prelude.{ℕ, List, ◌∷◌, ◌++◌, ltb, length, drop}
+use Rattle.std.specs.Prelude.{ℕ, List, [], ◌∷◌, ◌++◌, ltb, length, drop}
 use Rattle.settings.specs.declared.Settings.{Settings}
 use Rattle.settings.specs.Answer.{Answer, accepts, refuses, Rule, ◌⇒◌, judge}
 use Rattle.settings.specs.Opening.{opening_rules, leader_rules}
@@ -17,8 +17,8 @@ use Rattle.memory.specs.Leaders.{Leading}
 use Rattle.counters.specs.declared.Counters.{Counters}
 use Rattle.counters.specs.Counters.{opened}
 use Rattle.protocol.specs.Work.{Work, n}
-use Rattle.protocol.specs.Refusals.{store_length, region_rules, refusals, timer_rules, propose_rules}
-use Rattle.protocol.specs.Contents.{Contents, too_long_rule, record_digest_rule, right_before, record_place, propose_place, propose_digest_rule}
+use Rattle.protocol.specs.Refusals.{store_length, region_rules, refusals, timer_rules, next_block, propose_rules}
+use Rattle.protocol.specs.Contents.{Contents, too_long_rule, digest_rule, record_digest_rule, right_before, record_place, propose_place, propose_digest_rule}
 use Rattle.protocol.specs.Events.{on_record, on_timer, on_propose}
 use Rattle.protocol.specs.Rules.{settle}
 

@@ -1,7 +1,7 @@
 -- THE CLUSTER OF ONE (02, 2.2: "a ring of one box included"): (f, c, k) = (0, 0, 0), every quorum is 1, and its replica decides alone. What the first propose and
 -- the first timer after an opening answer and write, for any name, any list that is taken and any regions that are long enough; and demand 3's premises, which that
 -- propose by itself meets. That all hold is proofs/example/ClusterOfOne.antt. Assumes nothing.
-use Rattle.std.specs.Prelude.{ℕ, ◌≤◌, ◌≡◌, Bool, false, List, ◌∷◌, eqb, length}
+use Rattle.std.specs.Prelude.{ℕ, ◌≤◌, ◌≡◌, Bool, false, List, [], ◌∷◌, eqb, length}
 use Rattle.settings.specs.declared.Settings.{Settings}
 use Rattle.settings.specs.Answer.{accepts}
 use Rattle.settings.specs.Opening.{bad_leaders}

@@ -1,5 +1,5 @@
 -- A call that comes with contents (02, 2.5): the two refusals that they add, and the places of these in the lists of 01. Assumes nothing.
-use Rattle.std.specs.Prelude.{ℕ, not, cond, List, ◌∷◌, ◌++◌, eqb}
+use Rattle.std.specs.Prelude.{ℕ, not, cond, List, [], ◌∷◌, ◌++◌, eqb}
 use Rattle.settings.specs.Answer.{Rule, ◌⇒◌}
 use Rattle.codec.specs.Names.{same_bytes}
 use Rattle.digest.specs.Name.{name_of, too_long}

@@ -1,6 +1,6 @@
 -- A RUN OF DEMAND 3: six replicas, five of them honest, and what each of these is handed, as data. That it meets every premise of OneChain.antt, in both forms, and that
 -- replica 1 then has released the block, is proofs/example/Premises.antt. Assumes nothing.
-use Rattle.std.specs.Prelude.{ℕ, Bool, ◌&&◌, List, ◌∷◌, leb, replicate}
+use Rattle.std.specs.Prelude.{ℕ, Bool, ◌&&◌, List, [], ◌∷◌, leb, replicate}
 use Rattle.settings.specs.declared.Settings.{Settings}
 use Rattle.codec.specs.Names.{name_length, zero_name}
 use Rattle.digest.specs.Sha256.{be_bytes}

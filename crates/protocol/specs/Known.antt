@@ -1,6 +1,6 @@
 -- THE KNOWN RESULTS: the ten that 01 marks as proved (01: Known results), of which 02, 2.2 changes one and to which it adds one, as one table, and what a line
 -- of it says of the calls. That every line holds is proofs/example/Known.antt. Assumes nothing.
-use Rattle.std.specs.Prelude.{ℕ, suc, ◌≤◌, ◌<◌, ◌≡◌, false, cond, List, ◌∷◌, eqb, length}
+use Rattle.std.specs.Prelude.{ℕ, suc, ◌≤◌, ◌<◌, ◌≡◌, false, cond, List, [], ◌∷◌, eqb, length}
 use Rattle.settings.specs.declared.Settings.{Settings}
 use Rattle.settings.specs.Answer.{Answer, accepts, refuses}
 use Rattle.settings.specs.Opening.{bad_leaders}

@@ -1,6 +1,6 @@
 -- THE LISTING OF 01 (Known results): "Settings (1,1,0), n 6, own 1; timer 2; timer 1; timer 1; propose the name of 32 bytes 01 hex", as calls one after another,
 -- and the lines that it is to print. That the calls give these lines, over any regions that are long enough, is proofs/example/Listing.antt. Assumes nothing.
-use Rattle.std.specs.Prelude.{ℕ, List, ◌∷◌, replicate}
+use Rattle.std.specs.Prelude.{ℕ, List, [], ◌∷◌, replicate}
 use Rattle.settings.specs.Answer.{Answer, accepts, refuses}
 use Rattle.codec.specs.Names.{name_length}
 use Rattle.memory.specs.Leaders.{by_list}

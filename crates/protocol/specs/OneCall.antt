@@ -1,6 +1,6 @@
 -- What the theorems about one call say (01: Refusals; The box: "each call's output must be shown to fit"), and a list of calls on one replica.
 -- Assumes nothing.
-use Rattle.std.specs.Prelude.{ℕ, ◌≤◌, Bool, true, cond, ◌&&◌, ◌≡◌, List, ◌∷◌, eqb, ltb, length, drop}
+use Rattle.std.specs.Prelude.{ℕ, ◌≤◌, Bool, true, cond, ◌&&◌, ◌≡◌, List, [], ◌∷◌, eqb, ltb, length, drop}
 use Rattle.settings.specs.Answer.{accepts, refuses, Rule, judge}
 use Rattle.codec.specs.Bytes.{IsBytes}
 use Rattle.wire.specs.Fit.{IsName, IsU64}

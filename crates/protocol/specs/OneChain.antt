@@ -1,7 +1,7 @@
 -- DEMAND 3 (01: A run of the ring; 02: 2.1, 2.2, 2.5): the run, the premises and the claim, each under the sentence of 01 or 02 that it states. No proof is here: it is
 -- proofs/chain/Demand3.antt and Checked.antt. It speaks of `record_call_with`, `timer_call`, `propose_call_with` and `opening_call` of Calls.antt, with which the contracts of the calls in code, `replica::hydrangea_*`,
 -- are equations (without contents these are `record_call` and `propose_call`: AsBefore.antt): so what is shown here of these definitions holds of the code. Outside lie the host (docs/INTERFACE.md lists its duties, which are the premises), the signatures and the compiler's back end. Assumes nothing.
-use Rattle.std.specs.Prelude.{ℕ, zero, suc, ◌+◌, ◌≤◌, ◌<◌, Bool, true, false, cond, List, ◌∷◌, ◌++◌, ◌≡◌, T, length, take, drop}
+use Rattle.std.specs.Prelude.{ℕ, zero, suc, ◌+◌, ◌≤◌, ◌<◌, Bool, true, false, cond, List, [], ◌∷◌, ◌++◌, ◌≡◌, T, length, take, drop}
 use Rattle.settings.specs.declared.Settings.{Settings}
 use Rattle.settings.specs.Answer.{Answer, accepts, refuses}
 use Rattle.settings.specs.Quorum.{replicas}

@@ -1,6 +1,6 @@
 -- When a replica refuses (01: Refusals, by place, in this order): for each kind of record, for the timer and for propose, the list of rules.
 -- 3, 4 and 5 of a record are `shape_rules` of `wire`. Who leads a view is left open: `lead` is 01's rule, or the list of 02, 2.1. Assumes nothing.
-use Rattle.std.specs.Prelude.{ℕ, suc, ◌+◌, ◌*◌, Bool, true, cond, not, ◌&&◌, ◌||◌, List, ◌∷◌, eqb, ltb, leb, length}
+use Rattle.std.specs.Prelude.{ℕ, suc, ◌+◌, ◌*◌, Bool, true, cond, not, ◌&&◌, ◌||◌, List, [], ◌∷◌, eqb, ltb, leb, length}
 use Rattle.settings.specs.Answer.{Rule, ◌⇒◌}
 use Rattle.settings.specs.Quorum.{largest, last_view, last_height}
 use Rattle.settings.specs.Opening.{most_leaders}

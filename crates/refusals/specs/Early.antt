@@ -1,6 +1,6 @@
 -- The refusals of a record and of propose up to what the store is asked (01: Refusals, by place): the lists of `protocol`, cut where a held block
 -- is first looked up, with the leader by the list. Assumes nothing.
-use Rattle.std.specs.Prelude.{ℕ, suc, ◌+◌, ◌*◌, Bool, cond, not, ◌&&◌, ◌||◌, List, ◌∷◌, ◌++◌, eqb, ltb, leb, length}
+use Rattle.std.specs.Prelude.{ℕ, suc, ◌+◌, ◌*◌, Bool, cond, not, ◌&&◌, ◌||◌, List, [], ◌∷◌, ◌++◌, eqb, ltb, leb, length}
 use Rattle.settings.specs.Answer.{Rule, ◌⇒◌}
 use Rattle.settings.specs.Quorum.{replicas, last_view}
 use Rattle.codec.specs.Names.{name_length, same_bytes, zero_name}
@@ -13,7 +13,7 @@ use Rattle.memory.specs.Kept.{has, kept}
 use Rattle.memory.specs.Window.{lowest}
 use Rattle.memory.specs.Leaders.{by_list}
 use Rattle.counters.specs.declared.Counters.{Counters}
-use Rattle.protocol.specs.Work.{Work, n, own, view_now, timed, high_vote_view}
+use Rattle.protocol.specs.Work.{Work, settings, n, own, view_now, timed, high_vote_view}
 use Rattle.protocol.specs.Refusals.{not_other, above_window, view_of_progress, refusals}
 
 -- counters, memory and store as they are lent, before anything is written

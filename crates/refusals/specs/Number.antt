@@ -1,5 +1,5 @@
 -- Refusals as numbers, as the code gives them: 01's number, and 0 where nothing is refused. Assumes nothing.
-use Rattle.std.specs.Prelude.{ℕ, zero, suc, Bool, true, cond, ◌&&◌, List, ◌∷◌, eqb, ltb}
+use Rattle.std.specs.Prelude.{ℕ, zero, suc, Bool, true, cond, ◌&&◌, List, [], ◌∷◌, eqb, ltb}
 use Rattle.settings.specs.Answer.{Answer, accepts, refuses, Rule}
 
 -- "Answer 0 is acceptance"

@@ -1,5 +1,5 @@
 -- The search for what rule D releases, step by step: a place in `releasable` and `lowest_pair` of protocol, and what follows from it. Assumes nothing.
-use Rattle.std.specs.Prelude.{ℕ, zero, suc, ◌+◌, ◌-◌, ◌*◌, Bool, true, false, cond, ◌&&◌, List, ltb}
+use Rattle.std.specs.Prelude.{ℕ, zero, suc, ◌+◌, ◌-◌, ◌*◌, Bool, true, false, cond, ◌&&◌, List, [], ltb}
 use Rattle.settings.specs.Quorum.{largest, replicas, fast_quorum, slow_quorum}
 use Rattle.settings.specs.declared.View.{View}
 use Rattle.codec.specs.Names.{zero_name}

@@ -1,5 +1,5 @@
 -- Pieces that can be taken from the front of bytes, one after another, and what is left of these. Assumes nothing.
-use Rattle.std.specs.Prelude.{ℕ, Bool, true, List, ◌∷◌, ◌≡◌, length, drop}
+use Rattle.std.specs.Prelude.{ℕ, Bool, true, List, [], ◌∷◌, ◌≡◌, length, drop}
 use Rattle.wire.specs.Fields.{length_of}
 use Rattle.replay.specs.Input.{sized, Piece, front, used}
 use Rattle.replay.specs.Replay.{ready}

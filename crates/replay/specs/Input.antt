@@ -1,6 +1,6 @@
 -- THE RUN PROGRAM'S INPUT (01, Known results: "The run program reads records on standard input"): its opening, how the bytes after it are cut into records, and
 -- what each record asks. Assumes nothing.
-use Rattle.std.specs.Prelude.{ℕ, zero, suc, ◌+◌, ◌*◌, Bool, true, false, cond, ◌&&◌, List, ◌∷◌, eqb, leb, length, take, drop}
+use Rattle.std.specs.Prelude.{ℕ, zero, suc, ◌+◌, ◌*◌, Bool, true, false, cond, ◌&&◌, List, [], ◌∷◌, eqb, leb, length, take, drop}
 use Rattle.settings.specs.Quorum.{largest}
 use Rattle.codec.specs.Bytes.{part}
 use Rattle.codec.specs.Names.{name_length}

@@ -1,5 +1,5 @@
 -- THE LINES that a run prints, as numbers (01: "Lines: call, answer, then view, timed and tip height after it"), and the bytes in which they are lent. Assumes nothing.
-use Rattle.std.specs.Prelude.{ℕ, ◌+◌, cond, List, ◌∷◌, ◌++◌, eqb, ltb}
+use Rattle.std.specs.Prelude.{ℕ, ◌+◌, cond, List, [], ◌∷◌, ◌++◌, eqb, ltb}
 use Rattle.codec.specs.Bytes.{le_bytes}
 use Rattle.protocol.specs.Listing.{Line, line}
 

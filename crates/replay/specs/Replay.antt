@@ -1,5 +1,5 @@
 -- A RUN OF THE PROGRAM (01: Known results): over a whole input as a list of pieces, and over bytes at hand as the code goes through them. Assumes nothing.
-use Rattle.std.specs.Prelude.{ℕ, zero, suc, ◌+◌, Bool, cond, not, ◌&&◌, ◌||◌, List, ◌∷◌, ◌++◌, eqb, ltb, leb, length, take, drop}
+use Rattle.std.specs.Prelude.{ℕ, zero, suc, ◌+◌, Bool, cond, not, ◌&&◌, ◌||◌, List, [], ◌∷◌, ◌++◌, eqb, ltb, leb, length, take, drop}
 use Rattle.settings.specs.Opening.{in_turn}
 use Rattle.codec.specs.Bytes.{patch}
 use Rattle.wire.specs.Fields.{header_length, length_of}

@@ -1,5 +1,5 @@
 -- What an opening leaves, and the part of it that follows the judgement of the settings. Assumes nothing.
-use Rattle.std.specs.Prelude.{ℕ, List}
+use Rattle.std.specs.Prelude.{ℕ, List, []}
 use Rattle.settings.specs.declared.Settings.{Settings}
 use Rattle.settings.specs.Answer.{judge}
 use Rattle.settings.specs.Opening.{leader_rules}

@@ -1,5 +1,5 @@
 -- WHAT THE RUN PROGRAM DOES, turn by turn. What a read brings is free: no contract can say what the operating system hands over. Assumes nothing.
-use Rattle.std.specs.Prelude.{ℕ, zero, suc, ◌+◌, ◌-◌, ◌≤◌, ◌<◌, ◌≡◌, Bool, true, false, not, ◌&&◌, ◌||◌, List, ◌++◌, ◌⊎◌, eqb, ltb, length, take, drop, replicate}
+use Rattle.std.specs.Prelude.{ℕ, zero, suc, ◌+◌, ◌-◌, ◌≤◌, ◌<◌, ◌≡◌, Bool, true, false, not, ◌&&◌, ◌||◌, List, [], ◌++◌, ◌⊎◌, eqb, ltb, length, take, drop, replicate}
 use Rattle.codec.specs.Bytes.{patch}
 use Rattle.codec.specs.Names.{zero_name}
 use Rattle.blocks.specs.declared.Block.{Block}

@@ -1,6 +1,6 @@
 -- Our certificates serve the safety argument: their order decides what it asks, and the safe certificate of a list of timeouts is one. Assumes nothing.
 use mathlib.Core.Bool.{true}
-use mathlib.Core.List.{List, ◌∷◌}
+use mathlib.Core.List.{List, [], ◌∷◌}
 use mathlib.Core.Path.{◌≡◌}
 use Prim.Native.Nat.{ℕ}
 use native.Mathlib.Omega.{arith}

@@ -1,7 +1,7 @@
 -- The one induction over a run (`by_replica`): what each replica keeps by its own calls holds at the end; and all rows lie along one chain, for any step
 -- machine whose calls keep what `Keeps` asks (`row_linked`, `one_chain`). Assumes nothing.
 use mathlib.Core.Bool.{Bool, true, false, cond}
-use mathlib.Core.List.{List, ◌∷◌, ◌++◌, append-nil}
+use mathlib.Core.List.{List, [], ◌∷◌, ◌++◌, append-nil}
 use mathlib.Core.Logic.{◌⊎◌, inl, inr, ⊎_elim}
 use mathlib.Core.Path.{◌≡◌, refl, ap, subst}
 use Prim.Native.Nat.{ℕ, ◌≤◌}
@@ -13,7 +13,7 @@ use Rattle.wire.proofs.Slots.{all_impl}
 use Rattle.safety.specs.Lists.{In}
 use Rattle.safety.specs.Cluster.{Lawful, Cluster, EachHonest, EnoughHonest, HighVoted}
 use Rattle.safety.specs.Rows.{Begins, OneParent, firsts, Linked}
-use Rattle.safety.specs.Run.{AllAllowed, Machine, Log, tag, own, after, end, log, placements, Earlier, StepKeeps, Read, Did, cluster, row, AtEnd, Keeps}
+use Rattle.safety.specs.Run.{AllAllowed, Machine, Log, tag, own, after, end, log, placements, Earlier, StepKeeps, Read, made, Did, cluster, row, AtEnd, Keeps}
 use Rattle.safety.proofs.Lists.{in_left, in_right}
 use Rattle.safety.proofs.Rows.{begins_equal, shorter_begins, number_begins, released_linked}
 use Rattle.safety.proofs.Trace.{high_votes, lawful}

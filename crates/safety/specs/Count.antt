@@ -1,5 +1,5 @@
 -- Counting replicas: a set of replicas is a Boolean test on numbers, and only the numbers below n count. Assumes nothing.
-use Rattle.std.specs.Prelude.{Bool, true, false, ◌&&◌, ◌||◌, List, ◌∷◌, ℕ, zero, suc, ◌+◌, ◌≤◌, ◌<◌, eqb}
+use Rattle.std.specs.Prelude.{Bool, true, false, ◌&&◌, ◌||◌, List, [], ◌∷◌, ℕ, zero, suc, ◌+◌, ◌≤◌, ◌<◌, eqb}
 
 -- one for a test that passes
 abbrev pub tally : Bool → ℕ

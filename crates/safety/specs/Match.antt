@@ -1,5 +1,5 @@
 -- When the records that a replica made say its acts. Assumes nothing.
-use Rattle.std.specs.Prelude.{List, ◌∷◌, ◌++◌, ◌≡◌}
+use Rattle.std.specs.Prelude.{List, [], ◌∷◌, ◌++◌, ◌≡◌}
 use Rattle.safety.specs.Trace.{Act, vote, commit, timeout}
 use Rattle.safety.specs.Run.{Read, is_vote, is_commit, is_timeout, is_release, is_other}
 

@@ -1,5 +1,5 @@
 -- Rows: blocks from genesis on, each the parent of the next, and the rows of a cluster's releases. Assumes nothing.
-use Rattle.std.specs.Prelude.{List, ◌∷◌, ◌++◌, map, ◌≡◌, ℕ, suc}
+use Rattle.std.specs.Prelude.{List, [], ◌∷◌, ◌++◌, map, ◌≡◌, ℕ, suc}
 use Rattle.safety.specs.Cluster.{Cluster, Direct}
 
 -- l is the beginning of m

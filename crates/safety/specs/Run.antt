@@ -1,6 +1,6 @@
 -- 01: a run of the ring. A list of calls on replicas that take turns in any order, the premise that honest replicas made earlier what accepted
 -- records say of them, the rows of their releases, and what a step machine has to keep (`Keeps`). Assumes nothing.
-use Rattle.std.specs.Prelude.{Bool, cond, List, ◌∷◌, ◌++◌, ◌≡◌, ℕ, T, eqb}
+use Rattle.std.specs.Prelude.{Bool, cond, List, [], ◌∷◌, ◌++◌, ◌≡◌, ℕ, T, eqb}
 use Rattle.settings.specs.declared.Settings.{Settings}
 use Rattle.wire.specs.Fit.{All}
 use Rattle.safety.specs.Lists.{In}

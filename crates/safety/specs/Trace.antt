@@ -1,5 +1,5 @@
 -- One honest replica as the safety argument sees it: the counters that matter, the acts by which they change, and its trace in a run. Assumes nothing.
-use Rattle.std.specs.Prelude.{List, ◌∷◌, ◌⊎◌, ◌≡◌, ℕ, suc, ◌<◌}
+use Rattle.std.specs.Prelude.{List, [], ◌∷◌, ◌⊎◌, ◌≡◌, ℕ, suc, ◌<◌}
 use Rattle.safety.specs.Rank.{Cert, ◌⊑◌, block_of}
 use Rattle.safety.specs.Cluster.{Cluster, Timeout, Signed, Progress}
 

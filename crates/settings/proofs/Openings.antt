@@ -1,7 +1,7 @@
 -- When an opening is accepted and when it is refused, in facts instead of tests. Assumes nothing.
 use mathlib.Core.Path.{◌≡◌, refl}
 use mathlib.Core.Bool.{Bool, true, false, not}
-use mathlib.Core.List.{◌∷◌}
+use mathlib.Core.List.{[], ◌∷◌}
 use Prim.Native.Nat.{ℕ, ◌+◌, ◌*◌, ◌≤◌, ◌<◌}
 use borrow.Author.Tests.{le-ltb, eq-eqb, lt-leb, eqb-true, ltb-false, leb-false}
 use lib.Dec.{eqb, ltb, leb}

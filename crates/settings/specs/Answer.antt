@@ -1,5 +1,5 @@
 -- Answers, and refusals as a list of rules (01: Refusals, by place, in this order). Assumes nothing.
-use Rattle.std.specs.Prelude.{ℕ, Bool, cond, List, ◌∷◌}
+use Rattle.std.specs.Prelude.{ℕ, Bool, cond, List, [], ◌∷◌}
 
 -- what a call or a test answers: what it accepts (01's answer 0), or 01's number of the refusal
 pub data Answer (A : Type 0) : Type 0 where

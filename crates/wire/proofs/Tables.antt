@@ -1,6 +1,6 @@
 -- Each kind of record as a row of fields and what stands behind it: where a content stands in bytes, they are its encoding. Assumes nothing.
 use mathlib.Core.Path.{◌≡◌, refl, sym, ap, ◌∙◌, subst}
-use mathlib.Core.List.{List, ◌∷◌, map, append_assoc, append-nil}
+use mathlib.Core.List.{List, [], ◌∷◌, map, append_assoc, append-nil}
 use Prim.Native.Nat.{ℕ, ◌+◌, ◌*◌, ◌/◌, ◌^◌, ◌≤◌, ◌<◌}
 use native.Mathlib.Nat.{zero-add}
 use native.Mathlib.Omega.{arith}

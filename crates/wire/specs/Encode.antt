@@ -1,5 +1,5 @@
 -- The bytes of each record (01: Records, the table). Assumes nothing.
-use Rattle.std.specs.Prelude.{ℕ, ◌+◌, ◌/◌, List, ◌∷◌, ◌++◌, map, length}
+use Rattle.std.specs.Prelude.{ℕ, ◌+◌, ◌/◌, List, [], ◌∷◌, ◌++◌, map, length}
 use Rattle.codec.specs.Bytes.{le_bytes}
 use Rattle.wire.specs.declared.Timeout.{Timeout}
 use Rattle.wire.specs.Fields.{vote_length, block_certificate_length, timeout_length, timeouts_head, proposal_head, block_length, release_length}

@@ -1,5 +1,5 @@
 -- Where the fields of a record stand (01: Records, the table). Assumes nothing.
-use Rattle.std.specs.Prelude.{ℕ, zero, suc, List, ◌∷◌, take, drop}
+use Rattle.std.specs.Prelude.{ℕ, zero, suc, List, [], ◌∷◌, take, drop}
 use Rattle.codec.specs.Bytes.{part, le_nat}
 use Rattle.codec.specs.Names.{name_length}
 

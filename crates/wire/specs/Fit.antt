@@ -1,5 +1,5 @@
 -- Which contents fit a record's fields, and which are as the place "shape" asks (01: Records; Refusals, 4 and 5). Assumes nothing.
-use Rattle.std.specs.Prelude.{ℕ, suc, ◌^◌, ◌≤◌, ◌<◌, ◌⊎◌, ◌≡◌, List, ◌∷◌, length}
+use Rattle.std.specs.Prelude.{ℕ, suc, ◌^◌, ◌≤◌, ◌<◌, ◌⊎◌, ◌≡◌, List, [], ◌∷◌, length}
 use Rattle.codec.specs.Bytes.{IsBytes}
 use Rattle.codec.specs.Names.{name_length, zero_name}
 use Rattle.wire.specs.declared.Timeout.{Timeout}

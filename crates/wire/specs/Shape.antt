@@ -1,6 +1,6 @@
 -- The place "shape": which slices are records (01: Refusals, 3, 4 and 5). All of 3, inner records included, comes before all of 4, and that
 -- before all of 5. Assumes nothing.
-use Rattle.std.specs.Prelude.{ℕ, suc, ◌+◌, ◌*◌, ◌^◌, Bool, true, false, not, cond, ◌||◌, List, ◌∷◌, eqb, ltb, leb, length}
+use Rattle.std.specs.Prelude.{ℕ, suc, ◌+◌, ◌*◌, ◌^◌, Bool, true, false, not, cond, ◌||◌, List, [], ◌∷◌, eqb, ltb, leb, length}
 use Rattle.std.specs.Bool.{beq}
 use Rattle.settings.specs.Answer.{Answer, Rule, ◌⇒◌, judge}
 use Rattle.codec.specs.Names.{same_bytes, zero_name}

@@ -2,7 +2,7 @@
 -- kept votes or commits. Assumes nothing.
 use Prim.Native.Nat.{ℕ, zero, suc, ◌+◌, ◌^◌, ◌≤◌, ◌<◌}
 use mathlib.Core.Bool.{Bool, true, false, cond}
-use mathlib.Core.List.{List, ◌∷◌, map}
+use mathlib.Core.List.{List, [], ◌∷◌, map}
 use mathlib.Core.Logic.{◌⊎◌, inl, inr}
 use mathlib.Core.Path.{◌≡◌, refl, sym, ap, subst, ◌∙◌}
 use native.Mathlib.Nat.{add-zero, zero-add, lt_of_lt_of_le}
@@ -30,6 +30,7 @@ use Rattle.certificate.proofs.Backing.{backing_lt, proper_ascending}
 use Rattle.memory.specs.Layout.{vote_row, commit_row, timeout_row}
 use Rattle.memory.specs.Kept.{has, kept, kept_count, gathered, backs, tally}
 use Rattle.memory.specs.Formed.{formed}
+use Rattle.memory.proofs.Apart.{votes, commits, timeouts}
 use Rattle.memory.proofs.Bits.{counted}
 use Rattle.memory.proofs.Counting.{kept_counted, tally-counted}
 use Rattle.memory.proofs.Rows.{tally-signers}

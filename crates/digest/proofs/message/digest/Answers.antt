@@ -1,4 +1,4 @@
-use mathlib.Core.List.{◌∷◌, List}
+use mathlib.Core.List.{[], ◌∷◌, List}
 use Prim.Native.Nat.{◌+◌, ℕ, ◌*◌}
 use mathlib.Core.Path.{refl, sym, ap, ◌∙◌}
 use lib.ListN.{length, drop}
