@@ -1,5 +1,5 @@
 -- A certificate at work, as the code does it; each premise is what one callee ensures, in the order of the calls. Assumes nothing.
-use Prim.Native.Nat.{ℕ, suc, ◌+◌, ◌-◌, ◌*◌, ◌≤◌, ◌<◌, ◌^◌}
+use Prim.Native.Nat.{ℕ, suc, ◌+◌, ◌-◌, ◌≤◌, ◌<◌, ◌^◌}
 use native.Mathlib.Numerals.{add-one}
 use native.Mathlib.Omega.{arith}
 use mathlib.Core.Path.{◌≡◌, refl, sym, ap, ◌∙◌}
@@ -38,7 +38,7 @@ use Rattle.protocol.proofs.call.Certificates.{form_view, sender_form}
 use Rattle.protocol.proofs.call.Rules.{adopts_regular}
 use Rattle.protocol.proofs.call.Written.{Grows}
 use Rattle.act.specs.declared.Draft.{Draft}
-use Rattle.act.specs.Draft.{work_of, Left, Does, Ready}
+use Rattle.act.specs.Draft.{work_of, Does, Ready}
 use Rattle.act.specs.Progress.{HasForm, IsProgress, certificate_room, advance, InOutput}
 use Rattle.act.proofs.Steps.{empty_store, patch_inner, sent_at, sent_out, drop-patch, same_left, Longer, does_then, does_same, does_stay, does_over, ready_next, ready_facts, written_at}
 

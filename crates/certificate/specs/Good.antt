@@ -1,5 +1,5 @@
 -- When a certificate, a timeout and a progress certificate are good (01: Records; Refusals, 9). Assumes nothing.
-use Rattle.std.specs.Prelude.{ℕ, Bool, true, false, cond, ◌&&◌, List, [], ◌∷◌, eqb, ltb, leb, length}
+use Rattle.std.specs.Prelude.{ℕ, Bool, true, cond, ◌&&◌, List, [], ◌∷◌, eqb, ltb, leb, length}
 use Rattle.std.specs.Int.Count.{ones_in}
 use Rattle.settings.specs.declared.Settings.{Settings}
 use Rattle.settings.specs.Quorum.{block_quorum, weak_quorum, timeout_quorum}

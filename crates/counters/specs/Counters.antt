@@ -1,5 +1,5 @@
 -- The counters, and what each action makes of them (01: The box). Assumes nothing.
-use Rattle.std.specs.Prelude.{ℕ, Bool, true, false}
+use Rattle.std.specs.Prelude.{Bool, true, false}
 use Rattle.codec.specs.Names.{zero_name}
 use Rattle.settings.specs.declared.View.{View}
 use Rattle.wire.specs.declared.Vote.{Vote}

@@ -14,7 +14,6 @@ use Rattle.wire.specs.Encode.{vote_bytes}
 use Rattle.certificate.specs.declared.Certificate.{Certificate}
 use Rattle.certificate.specs.Safe.{safe_certificate}
 use Rattle.blocks.specs.declared.Block.{Block}
-use Rattle.blocks.specs.Store.{held}
 use Rattle.memory.specs.Layout.{entry_room, settings_of, block_count_of, with_block_count}
 use Rattle.memory.proofs.Header.{length_with_count, bytes_with_count, count_put, count_settings, count_own, count_leaders, count_entry}
 use Rattle.counters.specs.declared.Counters.{Counters}

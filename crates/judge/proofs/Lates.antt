@@ -6,7 +6,7 @@ use lib.ListN.{take, drop}
 use Prim.Native.Nat.{ℕ, suc}
 use borrow.Author.Tests.{eq-eqb}
 use lib.Dec.{eqb, ltb}
-use Rattle.settings.specs.Answer.{Rule, ◌⇒◌, judge}
+use Rattle.settings.specs.Answer.{Rule, ◌⇒◌}
 use Rattle.settings.specs.Quorum.{last_height}
 use Rattle.codec.specs.Names.{same_bytes}
 use Rattle.codec.proofs.Order.{same_refl, same_eq}

@@ -11,7 +11,6 @@ use Rattle.codec.proofs.Laws.{patch_append, patch_comm}
 use Rattle.wire.specs.Encode.{timeouts_bytes, timeouts_head_bytes}
 use Rattle.wire.proofs.Lengths.{length_timeouts_head, length_timeouts}
 use Rattle.memory.specs.declared.decided.Choice.{Choice}
-use Rattle.memory.specs.declared.decided.Quorums.{Quorums}
 use Rattle.memory.specs.Decided.{consider, choose}
 
 -- one replica more is considered

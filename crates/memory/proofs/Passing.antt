@@ -18,7 +18,7 @@ use Rattle.memory.specs.Kept.{has, kept, kept_count, backs, tally}
 use Rattle.memory.specs.Decided.{no_choice, improves, backed, decided, too_few, consider, choose, next_decided}
 use Rattle.memory.proofs.Bits.{counted}
 use Rattle.memory.proofs.Counting.{kept_counted, tally-counted, tally_kept, backs-has, backs_same}
-use Rattle.memory.proofs.Choosing.{Entry, Fit, Candidate, Reached, Takes, Leaves, considered, choose_from, choose_still, choose_reach, next_least, next_candidate, next_none}
+use Rattle.memory.proofs.Choosing.{Entry, Candidate, Reached, Takes, considered, choose_from, choose_still, choose_reach, next_least, next_candidate, next_none}
 
 -- ---- counting: what a longer count adds is no more than the entries that come in
 module _ (t u : ℕ → Bool) (h : (i : ℕ) → t i ≡ true → u i ≡ true) where

@@ -1,13 +1,12 @@
 -- Where fewer than a quorum have an entry for another name, no other name is backed; so a view in which that holds of a name decides that name or none.
 -- Assumes nothing.
 use mathlib.Core.Path.{◌≡◌, refl, sym, ap, ◌∙◌}
-use mathlib.Core.Logic.{◌⊎◌, inl, inr, ⊎_elim}
+use mathlib.Core.Logic.{inl, inr}
 use mathlib.Core.Bool.{Bool, true, false, cond, ◌&&◌, ◌||◌, true≢false, false≢true}
 use mathlib.Core.List.{List}
 use Prim.Native.Nat.{ℕ, zero, suc, ◌+◌, ◌-◌, ◌≤◌, ◌<◌}
 use native.Mathlib.Omega.{arith}
 use borrow.Author.Tests.{leb-true, lt-leb, ltb-true}
-use lib.Dec.{leb, ltb}
 use Rattle.settings.specs.Quorum.{largest}
 use Rattle.codec.specs.Names.{name_length, zero_name, same_bytes}
 use Rattle.codec.proofs.Order.{and_true, same_eq, same_refl, less_irrefl}

@@ -1,6 +1,6 @@
 -- A row of kept votes, commits or timeouts: "the first vote and commit of each box" (01: The box). One definition for any place and width.
 -- Assumes nothing.
-use Rattle.std.specs.Prelude.{ℕ, zero, suc, ◌+◌, ◌*◌, ◌%◌, ◌^◌, Bool, true, false, cond, ◌&&◌, List, [], ◌∷◌, ◌++◌, replicate}
+use Rattle.std.specs.Prelude.{ℕ, zero, suc, ◌+◌, ◌*◌, ◌%◌, ◌^◌, Bool, cond, ◌&&◌, List, [], ◌++◌, replicate}
 use Rattle.codec.specs.Bytes.{part, patch, le_bytes}
 use Rattle.codec.specs.Names.{name_length, same_bytes}
 use Rattle.wire.specs.Fields.{number_at}

@@ -17,8 +17,8 @@ use Rattle.memory.specs.Leaders.{Leading}
 use Rattle.counters.specs.declared.Counters.{Counters}
 use Rattle.counters.specs.Counters.{opened}
 use Rattle.protocol.specs.Work.{Work, n}
-use Rattle.protocol.specs.Refusals.{store_length, region_rules, refusals, timer_rules, next_block, propose_rules}
-use Rattle.protocol.specs.Contents.{Contents, too_long_rule, digest_rule, record_digest_rule, right_before, record_place, propose_place, propose_digest_rule}
+use Rattle.protocol.specs.Refusals.{store_length, region_rules, refusals, timer_rules, propose_rules}
+use Rattle.protocol.specs.Contents.{Contents, too_long_rule, record_digest_rule, right_before, record_place, propose_place, propose_digest_rule}
 use Rattle.protocol.specs.Events.{on_record, on_timer, on_propose}
 use Rattle.protocol.specs.Rules.{settle}
 

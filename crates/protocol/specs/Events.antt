@@ -1,5 +1,5 @@
 -- What an accepted call does before the rules run (01: The box: certificates, proposal, timer, propose). Assumes nothing.
-use Rattle.std.specs.Prelude.{ℕ, suc, ◌+◌, Bool, cond, ◌&&◌, List, [], ◌∷◌, eqb, ltb, leb}
+use Rattle.std.specs.Prelude.{ℕ, suc, Bool, cond, ◌&&◌, List, eqb, ltb, leb}
 use Rattle.codec.specs.Bytes.{patch, le_bytes}
 use Rattle.wire.specs.Fields.{progress_of}
 use Rattle.wire.specs.Encode.{proposal_bytes}

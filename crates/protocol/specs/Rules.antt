@@ -1,5 +1,5 @@
 -- The rules A to D after the event (01: The box), each at one view, and their run in phases. Assumes nothing.
-use Rattle.std.specs.Prelude.{ℕ, zero, suc, ◌+◌, ◌-◌, Bool, cond, ◌&&◌, ◌||◌, List, [], ◌∷◌, ltb, leb, length}
+use Rattle.std.specs.Prelude.{ℕ, zero, suc, ◌+◌, ◌-◌, Bool, cond, ◌&&◌, List, ltb, leb, length}
 use Rattle.settings.specs.Quorum.{block_quorum, timeout_quorum, slow_quorum, fast_quorum}
 use Rattle.wire.specs.Encode.{block_certificate_bytes}
 use Rattle.certificate.specs.Rank.{block_certificate, outranks}

@@ -1,6 +1,5 @@
 -- What the types of the interface say of counters, memory, store and input: bytes, names of 32 bytes, numbers of 64 bits. Any bits are such a value.
 -- Assumes nothing.
-use Rattle.std.specs.Prelude.{ℕ, List}
 use Rattle.codec.specs.Bytes.{IsBytes}
 use Rattle.wire.specs.declared.Vote.{Vote}
 use Rattle.wire.specs.Fit.{IsName, IsU64, All}

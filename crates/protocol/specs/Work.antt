@@ -1,10 +1,9 @@
 -- A replica at work: what a call has before it, what it has written so far, and the few actions of which every call is composed (01: The box).
 -- Assumes nothing.
-use Rattle.std.specs.Prelude.{ℕ, ◌+◌, Bool, cond, List, [], ◌∷◌, ◌++◌, length, take, set}
+use Rattle.std.specs.Prelude.{ℕ, ◌+◌, cond, List, ◌++◌, length, take, set}
 use Rattle.settings.specs.declared.Settings.{Settings}
 use Rattle.settings.specs.declared.View.{View}
 use Rattle.settings.specs.Quorum.{replicas}
-use Rattle.codec.specs.Bytes.{patch, le_bytes}
 use Rattle.codec.specs.Names.{name_length}
 use Rattle.wire.specs.declared.Timeout.{Timeout}
 use Rattle.wire.specs.Fields.{timeout_length}

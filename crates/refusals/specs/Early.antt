@@ -13,7 +13,7 @@ use Rattle.memory.specs.Kept.{has, kept}
 use Rattle.memory.specs.Window.{lowest}
 use Rattle.memory.specs.Leaders.{by_list}
 use Rattle.counters.specs.declared.Counters.{Counters}
-use Rattle.protocol.specs.Work.{Work, settings, n, own, view_now, timed, high_vote_view}
+use Rattle.protocol.specs.Work.{Work, n, own, view_now, timed, high_vote_view}
 use Rattle.protocol.specs.Refusals.{not_other, above_window, view_of_progress, refusals}
 
 -- counters, memory and store as they are lent, before anything is written

@@ -13,7 +13,7 @@ use Rattle.wire.proofs.Slots.{all_impl}
 use Rattle.safety.specs.Lists.{In}
 use Rattle.safety.specs.Cluster.{Lawful, Cluster, EachHonest, EnoughHonest, HighVoted}
 use Rattle.safety.specs.Rows.{Begins, OneParent, firsts, Linked}
-use Rattle.safety.specs.Run.{AllAllowed, Machine, Log, tag, own, after, end, log, placements, Earlier, StepKeeps, Read, made, Did, cluster, row, AtEnd, Keeps}
+use Rattle.safety.specs.Run.{AllAllowed, Machine, Log, tag, own, after, end, log, placements, Earlier, StepKeeps, Read, Did, cluster, row, AtEnd, Keeps}
 use Rattle.safety.proofs.Lists.{in_left, in_right}
 use Rattle.safety.proofs.Rows.{begins_equal, shorter_begins, number_begins, released_linked}
 use Rattle.safety.proofs.Trace.{high_votes, lawful}

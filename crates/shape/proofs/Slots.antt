@@ -2,7 +2,7 @@
 use mathlib.Core.Path.{◌≡◌}
 use mathlib.Core.Bool.{Bool, true, false}
 use mathlib.Core.List.{List}
-use Prim.Native.Nat.{ℕ, suc, ◌+◌, ◌-◌, ◌≤◌, ◌<◌}
+use Prim.Native.Nat.{ℕ, suc, ◌+◌, ◌≤◌, ◌<◌}
 use Rattle.wire.specs.Fields.{sender_of}
 use Rattle.wire.proofs.Turns.{slot, slots_from, slots_turn, slots_end}
 use Rattle.wire.specs.Shape.{any, slot_value_bad, slots_value_bad}

@@ -1,5 +1,4 @@
 use Rattle.protocol.specs.Typed.{CountersTyped}
-use borrow.Author.Rules.{rules}
 use Rattle.perform.proofs.Typing.{counters_typed}
 use Rattle.event.specs.Event.{Asked}
 use Rattle.perform.specs.Perform.{fresh}

@@ -19,10 +19,10 @@ use Rattle.memory.specs.Layout.{settings_of, leaders_of}
 use Rattle.memory.specs.Leaders.{by_list, round_robin}
 use Rattle.memory.proofs.Leading.{in_turn_is}
 use Rattle.protocol.specs.Work.{Work, n}
-use Rattle.protocol.specs.Refusals.{region_rules, refusals, next_block, propose_rules}
+use Rattle.protocol.specs.Refusals.{region_rules, refusals, propose_rules}
 use Rattle.protocol.specs.Rules.{settle}
 use Rattle.protocol.specs.Events.{on_record, on_propose}
-use Rattle.protocol.specs.Contents.{too_long_rule, digest_rule, record_digest_rule, right_before, record_place, propose_place, propose_digest_rule}
+use Rattle.protocol.specs.Contents.{too_long_rule, record_digest_rule, right_before, record_place, propose_place, propose_digest_rule}
 use Rattle.protocol.specs.Calls.{Replica, begin, ◌then◌, length_rules, record_core_with, propose_core_with, opening_core, Outcome, outcome, record_call_with, propose_call_with}
 use Rattle.protocol.specs.OneCall.{Call, receive, timer, propose, call_on, left, Handing, HandingTyped, outcomes}
 use Rattle.protocol.specs.AsBefore.{opened_with, OpensAsBefore, CallsAsBefore}

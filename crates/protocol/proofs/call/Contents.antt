@@ -12,10 +12,10 @@ use Rattle.wire.specs.Shape.{shape_rules}
 use Rattle.wire.proofs.Facts.{Quiet, off_judge}
 use Rattle.memory.specs.Leaders.{Leading}
 use Rattle.protocol.specs.Work.{Work, n}
-use Rattle.protocol.specs.Refusals.{region_rules, refusals, next_block, propose_rules}
+use Rattle.protocol.specs.Refusals.{region_rules, refusals, propose_rules}
 use Rattle.protocol.specs.Events.{on_record, on_propose}
 use Rattle.protocol.specs.Rules.{settle}
-use Rattle.protocol.specs.Contents.{Contents, none, too_long_rule, digest_rule, record_digest_rule, right_before, record_place, propose_place, propose_digest_rule}
+use Rattle.protocol.specs.Contents.{Contents, none, too_long_rule, record_digest_rule, right_before, record_place, propose_place, propose_digest_rule}
 use Rattle.protocol.specs.Calls.{Replica, begin, ◌then◌, record_refusals, record_core, propose_refusals, propose_core, record_refusals_with, propose_refusals_with, record_core_with, propose_core_with, outcome, record_call, propose_call, record_call_with, propose_call_with}
 use Rattle.protocol.specs.AsBefore.{RecordAsBefore, ProposeAsBefore}
 use Rattle.protocol.proofs.Branch.{by_cases}

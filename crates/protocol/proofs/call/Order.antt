@@ -1,15 +1,12 @@
 -- The refusals of each call stand in the papers' order: "Refusals, by place, in this order", and 16 and 17 of contents. Of each call the whole list is taken, as Calls.antt has it. Assumes nothing.
 use Prim.Native.Nat.{ℕ}
 use mathlib.Core.Path.{◌≡◌, refl}
-use mathlib.Core.Bool.{true, cond}
+use mathlib.Core.Bool.{true}
 use mathlib.Core.List.{List}
-use borrow.Author.Tests.{eqb-true}
-use lib.Dec.{eqb}
 use Rattle.settings.specs.declared.Settings.{Settings}
 use Rattle.settings.specs.Opening.{opening_rules, leader_rules}
-use Rattle.wire.specs.declared.Timeout.{Timeout}
 use Rattle.wire.specs.Fields.{kind_of}
-use Rattle.wire.specs.Content.{Certificate, by_block, by_timeouts, Content, vote, commit, certificate, timeout, proposal, block, content}
+use Rattle.wire.specs.Content.{Certificate, by_block, by_timeouts, Content, certificate}
 use Rattle.wire.specs.Shape.{shape_rules, certificate_kind_bad, bad_kind}
 use Rattle.memory.specs.Leaders.{Leading}
 use Rattle.protocol.specs.Work.{n}

@@ -22,7 +22,7 @@ use Rattle.memory.proofs.Apart.{commits}
 use Rattle.memory.proofs.Entering.{entered_head}
 use Rattle.memory.proofs.Header.{same_header, keep_head, entry_block_count}
 use Rattle.counters.specs.Counters.{adopting, with_locks, entering}
-use Rattle.protocol.specs.Work.{Work, settings, n, own, view_now, tip, held_block, send, adopt, enter_by, hold, keep_commit, send_vote, send_commit}
+use Rattle.protocol.specs.Work.{Work, n, own, view_now, tip, held_block, send, adopt, enter_by, hold, keep_commit, send_vote, send_commit}
 use Rattle.protocol.specs.Typed.{BlockTyped}
 use Rattle.protocol.specs.Refusals.{store_length, view_of_progress, no_room}
 use Rattle.protocol.specs.Events.{may_commit, may_vote, safe_in, with_sender, commit_after, progress, proposition_of}

@@ -1,8 +1,8 @@
 -- What the tests of accepted calls leave, and the events that they allow: what others sent is kept, a block is held, a proposal is taken. Assumes nothing.
-use Prim.Native.Nat.{ℕ, suc, ◌+◌, ◌-◌, ◌≤◌, ◌<◌}
+use Prim.Native.Nat.{ℕ, suc, ◌+◌, ◌≤◌, ◌<◌}
 use mathlib.Core.Bool.{Bool, true, false, cond}
 use mathlib.Core.List.{List, [], ◌∷◌, ◌++◌}
-use mathlib.Core.Logic.{◌⊎◌, inl, inr, ⊎_elim}
+use mathlib.Core.Logic.{inl, inr, ⊎_elim}
 use mathlib.Core.Path.{◌≡◌, refl, sym, ap, subst, ◌∙◌}
 use native.Mathlib.Omega.{arith}
 use borrow.Author.Tests.{leb-false, ltb-true, ltb-false, eqb-true, eqb-false, not-false}
@@ -15,7 +15,7 @@ use Rattle.codec.specs.Names.{name_length, same_bytes, zero_name}
 use Rattle.codec.proofs.Order.{and_true, same_eq, which}
 use Rattle.wire.specs.Fields.{timeout_length}
 use Rattle.wire.specs.Encode.{encode}
-use Rattle.wire.specs.Content.{certificate_of, vote, certificate, block}
+use Rattle.wire.specs.Content.{certificate_of, vote, block}
 use Rattle.wire.specs.Fit.{IsName, CertificateFits, Fits}
 use Rattle.wire.proofs.Facts.{Framed}
 use Rattle.wire.proofs.Frames.{or_false}

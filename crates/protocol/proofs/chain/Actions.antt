@@ -1,6 +1,6 @@
 -- Each action of a replica keeps the invariant: keeping what others sent, adopting, entering, the acts (vote, commit, timeout), holding a block, releasing.
 -- Assumes nothing.
-use Prim.Native.Nat.{ℕ, suc, ◌+◌, ◌-◌, ◌^◌, ◌≤◌, ◌<◌}
+use Prim.Native.Nat.{ℕ, suc, ◌^◌, ◌≤◌, ◌<◌}
 use mathlib.Core.Bool.{Bool, true, false}
 use mathlib.Core.List.{List, [], ◌∷◌, ◌++◌, append_assoc, append-nil}
 use mathlib.Core.Path.{◌≡◌, refl, sym, ap, subst, ◌∙◌}
@@ -13,7 +13,6 @@ use Rattle.settings.specs.Quorum.{largest, last_view, replicas}
 use Rattle.codec.specs.Bytes.{IsBytes, part}
 use Rattle.codec.specs.Names.{name_length}
 use Rattle.wire.specs.Fields.{timeout_length}
-use Rattle.wire.specs.Content.{vote, commit, timeout}
 use Rattle.wire.specs.Content as Content
 use Rattle.wire.specs.Fit.{All}
 use Rattle.certificate.specs.declared.Certificate.{Certificate}
@@ -22,7 +21,6 @@ use Rattle.certificate.specs.Rank.{adopted}
 use Rattle.certificate.specs.Order.{kept}
 use Rattle.certificate.proofs.Adopting.{adopted_has, kinds_kept, highest_new, highest-adopted}
 use Rattle.blocks.specs.declared.Block.{Block}
-use Rattle.blocks.specs.Store.{releases}
 use Rattle.memory.specs.Layout.{memory_length, entry_room, entry_place, entry_length_of, entry_of, block_count_of, with_entry}
 use Rattle.memory.specs.Kept.{keep}
 use Rattle.memory.specs.Window.{entered}
@@ -30,7 +28,7 @@ use Rattle.memory.proofs.Apart.{Table, votes, commits, timeouts, row_of, width_o
 use Rattle.memory.proofs.Header.{SameHeader, same_header, keep_head, entry_put, entry_block_count}
 use Rattle.memory.proofs.Entering.{Windowed, entered_head, length-entered}
 use Rattle.counters.specs.declared.Counters.{Counters}
-use Rattle.counters.specs.Counters.{certificate_of, signed_of, locks_of, with_locks, adopting, entering, releasing}
+use Rattle.counters.specs.Counters.{certificate_of, signed_of, locks_of, with_locks, adopting, entering}
 use Rattle.safety.specs.Rank.{◌⊑◌}
 use Rattle.safety.specs.Cluster as Cluster
 use Rattle.safety.specs.Certificates.{cert}
@@ -42,7 +40,7 @@ use Rattle.safety.specs.Trace as Trace
 use Rattle.safety.proofs.Rank.{⊑_refl}
 use Rattle.safety.proofs.Certificates.{admissible}
 use Rattle.safety.proofs.Certificates as Cands
-use Rattle.protocol.specs.Work.{Work, view, settings, n, own, view_now, timed, tip, blocks, with_memory, send, keep_vote, keep_commit, keep_timeout, adopt, enter_by, release}
+use Rattle.protocol.specs.Work.{Work, view, settings, n, own, view_now, timed, tip, blocks, with_memory, send, keep_vote, keep_commit, keep_timeout, adopt, enter_by}
 use Rattle.protocol.specs.Typed.{CertificateTyped}
 use Rattle.protocol.specs.OneChain.{reads}
 use Rattle.protocol.proofs.call.Typing.{all_append}

@@ -15,7 +15,7 @@ use Rattle.wire.specs.Content.{Content}
 use Rattle.wire.specs.Content as Content
 use Rattle.wire.specs.Fit.{All, Fits}
 use Rattle.blocks.specs.declared.Block.{Block}
-use Rattle.blocks.specs.Store.{held, descends, ancestry, releases, kept}
+use Rattle.blocks.specs.Store.{descends, ancestry, kept}
 use Rattle.blocks.proofs.Kept.{dropped_held}
 use Rattle.blocks.proofs.Fewer.{kept_within}
 use Rattle.blocks.proofs.Linked.{In, AllIn, ancestry_last}

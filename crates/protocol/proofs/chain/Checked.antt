@@ -1,7 +1,7 @@
 -- DEMAND 3 WHERE ALL BLOCKS ARE CHECKED (02, 2.5): a placement of the run is that of a block that an accepted call took, since only propose makes a kind 7; and the name
 -- of a block that was taken with contents is their digest. So two placements of one name have triples of one digest, and 01's premise on names follows. Assumes nothing.
 use Prim.Native.Nat.{ℕ}
-use mathlib.Core.Bool.{Bool, true, false, cond, true≢false}
+use mathlib.Core.Bool.{Bool, cond, true≢false}
 use mathlib.Core.List.{List, [], ◌∷◌, ◌++◌, append-nil}
 use mathlib.Core.Logic.{inl, inr, ⊎_elim}
 use mathlib.Core.Path.{◌≡◌, refl, sym, ap, subst, ◌∙◌}

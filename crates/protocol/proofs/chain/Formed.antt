@@ -30,7 +30,6 @@ use Rattle.certificate.proofs.Backing.{backing_lt, proper_ascending}
 use Rattle.memory.specs.Layout.{vote_row, commit_row, timeout_row}
 use Rattle.memory.specs.Kept.{has, kept, kept_count, gathered, backs, tally}
 use Rattle.memory.specs.Formed.{formed}
-use Rattle.memory.proofs.Apart.{votes, commits, timeouts}
 use Rattle.memory.proofs.Bits.{counted}
 use Rattle.memory.proofs.Counting.{kept_counted, tally-counted}
 use Rattle.memory.proofs.Rows.{tally-signers}

@@ -1,5 +1,5 @@
 -- An accepted record keeps the invariant, whatever its kind. Assumes nothing.
-use Prim.Native.Nat.{ℕ, suc, ◌+◌, ◌-◌, ◌^◌, ◌≤◌, ◌<◌}
+use Prim.Native.Nat.{ℕ, suc, ◌^◌, ◌≤◌, ◌<◌}
 use mathlib.Core.Bool.{true, false, true≢false}
 use mathlib.Core.List.{List, [], ◌∷◌, ◌++◌}
 use mathlib.Core.Path.{◌≡◌, refl, sym, ap, subst, ◌∙◌}
@@ -10,7 +10,7 @@ use lib.ListN.{length}
 use Rattle.settings.specs.declared.Settings.{Settings}
 use Rattle.settings.specs.Quorum.{largest, last_view, last_height, replicas}
 use Rattle.codec.specs.Bytes.{IsBytes}
-use Rattle.codec.proofs.Order.{and_true, same_eq, which}
+use Rattle.codec.proofs.Order.{and_true, same_eq}
 use Rattle.wire.specs.Fields.{progress_of}
 use Rattle.wire.specs.Encode.{timeout_bytes, certificate_bytes, encode}
 use Rattle.wire.specs.Content.{Certificate, by_block, by_timeouts, certificate_of, Content, vote, commit, certificate, timeout, proposal, block, release, content}
@@ -31,7 +31,7 @@ use Rattle.protocol.specs.Work.{Work, settings, n, view_now, tip, blocks, held_b
 use Rattle.protocol.specs.Typed.{BlockTyped}
 use Rattle.protocol.specs.Refusals.{store_length, view_of_progress, misplaced, no_room, safe_name, child, refusals}
 use Rattle.protocol.specs.Events.{progress, proposition_of, on_record}
-use Rattle.protocol.specs.OneChain.{Placement, timeout_says, certificate_says, record_says, record_gives, reads}
+use Rattle.protocol.specs.OneChain.{Placement, timeout_says, certificate_says, record_says, record_gives}
 use Rattle.protocol.proofs.chain.Invariant.{Name, History, R, size, ParentHeld, placement_of}
 use Rattle.protocol.proofs.chain.Actions.{few}
 use Rattle.protocol.proofs.chain.Records.{encode_framed}

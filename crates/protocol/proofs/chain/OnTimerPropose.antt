@@ -1,5 +1,5 @@
 -- The timer and propose keep the invariant. Assumes nothing.
-use Prim.Native.Nat.{ℕ, suc, ◌+◌, ◌-◌, ◌^◌, ◌≤◌, ◌<◌}
+use Prim.Native.Nat.{ℕ, suc, ◌^◌, ◌≤◌, ◌<◌}
 use mathlib.Core.Bool.{false, not, ◌||◌}
 use mathlib.Core.List.{List, [], ◌∷◌, ◌++◌}
 use mathlib.Core.Logic.{inl, inr}
@@ -12,9 +12,9 @@ use Rattle.codec.proofs.Le.{bytes_part}
 use Rattle.settings.specs.declared.Settings.{Settings}
 use Rattle.settings.specs.Quorum.{largest, last_view, last_height}
 use Rattle.codec.specs.Names.{zero_name}
-use Rattle.codec.proofs.Order.{same_ne, which}
+use Rattle.codec.proofs.Order.{same_ne}
 use Rattle.wire.specs.Encode.{proposal_bytes, encode}
-use Rattle.wire.specs.Content.{certificate_of, Content, certificate, proposal}
+use Rattle.wire.specs.Content.{certificate_of, Content, proposal}
 use Rattle.wire.specs.Fit.{IsName, Fits, Proper}
 use Rattle.wire.proofs.Frames.{or_false}
 use Rattle.wire.proofs.Facts.{Quiet, Framed}

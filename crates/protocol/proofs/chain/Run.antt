@@ -1,5 +1,5 @@
 -- Every call of a run keeps the invariant of its replica, and an accepted opening establishes it. Assumes nothing.
-use Prim.Native.Nat.{ℕ, ◌+◌, ◌≤◌, ◌<◌}
+use Prim.Native.Nat.{ℕ, ◌≤◌}
 use mathlib.Core.Bool.{Bool, true, false, cond, true≢false, false≢true}
 use mathlib.Core.List.{List, [], ◌∷◌, ◌++◌, append-nil}
 use mathlib.Core.Logic.{inl, inr}
@@ -20,7 +20,6 @@ use Rattle.wire.proofs.Slots.{all_impl}
 use Rattle.certificate.specs.Safe.{safe_certificate}
 use Rattle.blocks.specs.declared.Block.{Block}
 use Rattle.memory.specs.Layout.{memory_length, own_of, entry_of}
-use Rattle.memory.specs.Kept.{has}
 use Rattle.memory.proofs.Apart.{Table, votes, commits, timeouts}
 use Rattle.counters.specs.Counters.{opened, certificate_of}
 use Rattle.safety.specs.Lists.{In}

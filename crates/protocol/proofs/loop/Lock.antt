@@ -22,7 +22,7 @@ use Rattle.memory.proofs.Entering.{entered_head}
 use Rattle.counters.specs.declared.Counters.{Counters}
 use Rattle.counters.specs.Counters.{locks_of, with_locks, signed_of, adopting, entering}
 use Rattle.counters.specs.Counters
-use Rattle.protocol.specs.Work.{Work, own, view_now, timed, send, adopt, enter_by, keep_commit, send_commit}
+use Rattle.protocol.specs.Work.{Work, own, view_now, send, adopt, enter_by, keep_commit, send_commit}
 use Rattle.protocol.specs.Events.{may_commit, with_sender, commit_after, progress}
 use Rattle.protocol.proofs.call.Regular.{Regular}
 use Rattle.protocol.proofs.loop.Formed.{block_read, block_fits, length_sender}

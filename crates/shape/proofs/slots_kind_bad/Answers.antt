@@ -1,5 +1,4 @@
 use mathlib.Core.Path.{sym, ◌∙◌}
-use Prim.Native.Nat.{◌-◌}
 use native.Mathlib.Nat.{sub-zero}
 use Rattle.wire.specs.Shape.{slot_kind_bad}
 use Rattle.shape.proofs.Slots.{any_here, any_later, any_none}

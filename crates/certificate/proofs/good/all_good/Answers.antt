@@ -1,5 +1,4 @@
 use mathlib.Core.Path.{sym, ◌∙◌}
-use Prim.Native.Nat.{◌-◌}
 use native.Mathlib.Nat.{sub-zero}
 use Rattle.certificate.specs.Good.{timeout_good}
 use Rattle.certificate.proofs.Timeouts.{all_not, all_on, all_end}

@@ -1,5 +1,4 @@
 use mathlib.Core.Path.{refl, sym, ◌∙◌}
-use Prim.Native.Nat.{◌-◌}
 use Rattle.certificate.specs.Safe.{carried_by}
 use Rattle.certificate.proofs.Timeouts.{each_on, each_end}
 use borrow.Author.Rules.{rules}

@@ -1,5 +1,4 @@
 use mathlib.Core.Path.{sym, ◌∙◌}
-use Prim.Native.Nat.{◌-◌}
 use native.Mathlib.Nat.{sub-zero}
 use Rattle.certificate.proofs.Timeouts.{each_on, each_end, backed_count}
 use borrow.Author.Rules.{rules}

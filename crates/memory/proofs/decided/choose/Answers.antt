@@ -1,6 +1,5 @@
 use borrow.Author.Tests.{leb-false}
 use mathlib.Core.Path.{◌≡◌, refl, sym, ap, ◌∙◌}
-use Prim.Native.Nat.{◌-◌}
 use Rattle.memory.specs.Decided.{choose}
 use Rattle.memory.proofs.Forming.{choose_on}
 use Rattle.memory.proofs.Passing.{choose_enough}

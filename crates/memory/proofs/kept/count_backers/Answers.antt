@@ -1,5 +1,5 @@
 use mathlib.Core.Path.{◌≡◌, refl, ap, ◌∙◌}
-use Prim.Native.Nat.{◌-◌, ◌≤◌, ◌<◌, ◌^◌}
+use Prim.Native.Nat.{◌≤◌, ◌<◌, ◌^◌}
 use Rattle.memory.specs.Kept.{tally}
 use Rattle.memory.proofs.Rows.{tally-count, tally-signers, tally_on}
 use borrow.Author.Rules.{rules}

@@ -1,7 +1,7 @@
 use Rattle.codec.proofs.Laws.{length-patch}
 use Rattle.memory.proofs.Places.{next_place}
 use mathlib.Core.Path.{refl, ap, ◌∙◌}
-use Prim.Native.Nat.{◌-◌, ◌<◌}
+use Prim.Native.Nat.{◌<◌}
 use native.Mathlib.Nat.{sub-zero}
 use lib.ListN.{length}
 use Rattle.memory.proofs.Places.{entry_inside}

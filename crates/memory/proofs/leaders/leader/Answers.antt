@@ -2,7 +2,6 @@ use Prim.Native.Nat.{◌+◌, ◌-◌, ◌%◌, ◌<◌}
 use native.Mathlib.Nat.{mod-lt}
 use Rattle.memory.specs.Layout.{leaders_place}
 use Rattle.memory.proofs.Leading.{leader_at}
-use borrow.Author.Rules.{rules}
 use native.Mathlib.Omega.{arith}
 use Rattle.memory.proofs.leaders.leader.Goals as goal
 

@@ -28,10 +28,10 @@ use Rattle.memory.specs.Leaders.{by_list}
 use Rattle.memory.proofs.Bits.{counted}
 use Rattle.counters.specs.Counters.{opened, certificate_of as certificate_from, locks_of, voting, releasing}
 use Rattle.protocol.specs.Work.{Work, n, blocks, send, release}
-use Rattle.protocol.specs.Refusals.{output_length, region_rules, next_block, propose_rules}
+use Rattle.protocol.specs.Refusals.{output_length, region_rules, propose_rules}
 use Rattle.protocol.specs.Events.{on_propose}
 use Rattle.protocol.specs.Applies.{Turn, Turns, turn, rest, run_c, run_d, signers_for}
-use Rattle.protocol.specs.Contents.{given, digest_rule, propose_digest_rule}
+use Rattle.protocol.specs.Contents.{given, propose_digest_rule}
 use Rattle.protocol.specs.Calls.{Replica, begin, propose_core, outcome, propose_call, propose_call_with}
 use Rattle.protocol.specs.ClusterOfOne.{one, decided, Decides}
 use Rattle.protocol.proofs.call.Typing.{zero_is_name}

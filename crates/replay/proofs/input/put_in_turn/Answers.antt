@@ -1,5 +1,4 @@
 use mathlib.Core.Path.{refl, sym, ◌∙◌}
-use Prim.Native.Nat.{◌-◌}
 use lib.ListN.{length-set}
 use Rattle.replay.proofs.InTurn.{turn_put, end_put}
 use borrow.Author.Rules.{rules}

@@ -1,4 +1,3 @@
-use Prim.Native.Nat.{◌-◌}
 use mathlib.Core.Path.{refl, sym, ◌∙◌}
 use Rattle.rules.specs.Phases.{echoable}
 use Rattle.rules.proofs.Quiet.{nowhere_on, nowhere_off, nowhere_end, timeouts_are}
