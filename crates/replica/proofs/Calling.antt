@@ -4,7 +4,7 @@ use native.Mathlib.Omega.{arith}
 use mathlib.Core.Path.{◌≡◌, refl, sym, ap, ◌∙◌}
 use mathlib.Core.Bool.{Bool, true, false, cond}
 use mathlib.Core.List.{List}
-use borrow.Author.Tests.{eqb-true, eqb-false}
+use borrow.Author.Tests.{eqb-false}
 use lib.Dec.{eqb}
 use Rattle.settings.specs.Answer.{Answer, accepts, refuses}
 use lib.ListN.{length, take, set}
@@ -51,25 +51,14 @@ concludes {e = e} {m' = m'} {o' = o'} s a =
       ready = λ _. ready_less e.draft m' o' (release_length * store_length) _ fits R;
     }
 
--- ---- what was judged, in both branches
+-- ---- what was judged, where it is refused
 module _ {number : Work → ℕ} {such : Work → Type 0} {t : Bool} {k : ℕ} {W : Work} (j : Judges number such t k W) where
-  pub is_accepted : t ≡ true → Accepted number such W
-  is_accepted h = let z : k ≡ 0 = eqb-true k 0 (sym j.told ∙ h) in record { accepted = sym j.is ∙ z; asked = j.shown z }
-
   pub is_refused : t ≡ false → k ≡ 0 → ⊥
   is_refused h = eqb-false k 0 (sym j.told ∙ h)
-
--- the judgement left the counters as they were
-pub still_judged : {number : Work → ℕ} {such : Work → Type 0} {t : Bool} {k : ℕ} {c c' : Counters} → c' ≡ c → (m : List ℕ) (s : List Block) → Judges number such t k (lent c m s)
-    → Judges number such t k (lent c' m s)
-still_judged e m s j = rw e j
 
 pub timer_numbered : {k : ℕ} (room v : ℕ) (W : Work) → k ≡ first_of (region_rules W room then timer_rules W v) → k ≡ timer_number room v W
 unfolding timer_number
 timer_numbered room v W e = e
-
-pub timer_accepted : {number : ℕ} {goes : Bool} {k : ℕ} → (goes ≡ eqb k 0) × (k ≡ number) → goes ≡ true → number ≡ 0
-timer_accepted {k = k} a h = sym a.1 ∙ eqb-true k 0 (sym a.0 ∙ h)
 
 -- ---- each call, taken or refused
 module _ (c : Counters) (m o : List ℕ) (s : List Block) where
@@ -145,10 +134,7 @@ propose_refusal_is c m s room n k w found under wanted f u e =
     let W = lent c m s in
     e ∙ ap (λ (y : Found). propose_due n w y under k) f ∙ ap (λ (y : Found). propose_due n w (looked_up W w w.name) y k) u ∙ ap (λ (v : Want). propose_due n v (looked_up W v v.name) (looked_up W v v.base) k) wanted
 
--- the two branches, of any call: it is made, or it is refused and everything stays
-pub call_made : {x : Replied} (R : Replica) (o : List ℕ) (y : Outcome) (goes : Bool) (due : ℕ) → goes ≡ true → x ≡ replied_by y → x ≡ cond goes (replied_by y) (replied_by (outcome R o (refuses due)))
-call_made R o y goes due t e = rw t e
-
+-- a call that is refused leaves everything as it was
 pub call_unmade : (c : Counters) (m o : List ℕ) (s : List Block) (y : Outcome) (goes : Bool) (due : ℕ) (r : Reply) → goes ≡ false → r ≡ reply_of (refuses due)
     → replied r c m s o ≡ cond goes (replied_by y) (replied_by (outcome (lent_to c m s) o (refuses due)))
 unfolding outcome
