@@ -4,7 +4,7 @@
 // Rests on `memory`, `blocks`, `counters` and `act`. Every decision is a function by value; the others move values.
 #![tactic(auto)]
 
-ghost use Rattle.std.specs.Prelude.{◌≡◌, true, cond, ◌+◌, ◌*◌, ◌^◌, ◌<◌, ◌≤◌, length, take};
+ghost use Rattle.std.specs.Prelude.{◌≡◌, true, false, cond, ◌+◌, ◌*◌, ◌^◌, ◌<◌, ◌≤◌, length, take};
 ghost use Rattle.settings.specs.Quorum.{largest, last_view, replicas};
 ghost use Rattle.wire.specs.Fields.{release_length};
 ghost use Rattle.memory.specs.Layout.{memory_length, settings_of, block_count_of, with_block_count};
@@ -13,7 +13,7 @@ ghost use Rattle.protocol.specs.Refusals.{store_length, regular};
 ghost use Rattle.protocol.specs.Rules.{again};
 ghost use Rattle.act.specs.Draft.{work_of, left, left_by, Ready};
 ghost use Rattle.release.specs.Released.{Releases, Released, ReleasedIf, first_turn, allowed_of, next_turn, draft_at, Turned, Ends, EndsIf, last_released, finished_of};
-ghost use Rattle.release.specs.Search.{standing, known_by, seen, no_target, first_place, look_of, next_view, next_name, step_of, views_after, target_from, lowest_target, quorums_of, at_next_view, passed};
+ghost use Rattle.release.specs.Search.{steps_left, standing, known_by, seen, no_target, first_place, look_of, next_view, next_name, step_of, views_after, target_from, lowest_target, quorums_of, at_next_view, passed};
 
 use act::Draft;
 use blocks::{Block, Found};
@@ -286,23 +286,32 @@ fn next_step(p: Place, l: Look, b: Found, down: bool) -> Step
     }
 }
 
-// The search from a place on. One call stands on the stack for each view and each decided name that is passed over: at most n + 1 names of a view, since where f and c are 0 one
-// commit decides.
-fn target_from(mem: &[u8], store: &[Block], tip: Block, p: Place) -> Target
+// One step of the search from a place on: the views without a decision are passed over, and the pair found there is looked at.
+fn step_from(mem: &[u8], store: &[Block], tip: Block, p: Place) -> Step
     requires { (memory_length ≤ length mem.now) × ((replicas (settings_of mem.now) ≤ largest) × (p.view.0 + p.views < 2 ^ 63)) }
-    ensures { result ≡ target_from p (seen tip mem.now store.now) }
+    ensures on { result.goes ≡ true → target_from result.place (seen tip mem.now store.now) ≡ target_from p (seen tip mem.now store.now) }
+    ensures off { result.goes ≡ false → result.target ≡ target_from p (seen tip mem.now store.now) }
+    ensures less { result.goes ≡ true → steps_left result.place < steps_left p }
+    ensures within { result.goes ≡ true → result.place.view.0 + result.place.views ≤ p.view.0 + p.views }
 {
     let q = pass_views(mem, p);
     let l = look_at(mem, q);
     let b = blocks::held(store, l.count, tip, l.name);
     let below = entries_below(b, l.count);
     let down = blocks::descends(store, below, tip, b.block);
-    let s = next_step(q, l, b, down);
-    if s.goes {
-        target_from(mem, store, tip, s.place)
-    } else {
-        s.target
+    next_step(q, l, b, down)
+}
+
+// The search from a place on: a step for each view and each decided name that is passed over, at most n + 1 names of a view, since where f and c are 0 one commit decides.
+fn target_from(mem: &[u8], store: &[Block], tip: Block, p: Place) -> Target
+    requires { (memory_length ≤ length mem.now) × ((replicas (settings_of mem.now) ≤ largest) × (p.view.0 + p.views < 2 ^ 63)) }
+    ensures { result ≡ target_from p (seen tip mem.now store.now) }
+{
+    let mut s = step_from(mem, store, tip, p);
+    while s.goes {
+        s = step_from(mem, store, tip, s.place);
     }
+    s.target
 }
 
 // What rule D releases next.
