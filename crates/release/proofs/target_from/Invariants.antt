@@ -7,8 +7,8 @@ use Rattle.release.proofs.target_from.Given as goal
 
 abbrev pub invariant-loop-s : goal.invariant-loop-s
 invariant-loop-s l =
-    (l.s.goes ≡ true → target_from l.s.place (seen l.tip l.mem l.store) ≡ target_from l.p (seen l.tip l.mem l.store))
-    × (l.s.goes ≡ false → l.s.target ≡ target_from l.p (seen l.tip l.mem l.store))
+    (l.s.goes ≡ true → target_from l.s.place (seen l.tip l.mem l.store) ≡ target_from l.fn.p (seen l.tip l.mem l.store))
+    × (l.s.goes ≡ false → l.s.target ≡ target_from l.fn.p (seen l.tip l.mem l.store))
     × (l.s.goes ≡ true → l.s.place.view.0 + l.s.place.views < 2 ^ 63)
 
 abbrev pub decreases-loop-s : goal.decreases-loop-s
