@@ -1,4 +1,3 @@
-pub mod Types
 pub mod Laws
 pub mod Cutting
 pub mod Whole

@@ -1,4 +1,3 @@
-pub mod Types
 pub mod Laws
 pub mod Turning
 pub mod Whole
