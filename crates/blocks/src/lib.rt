@@ -2,7 +2,7 @@
 // Promises: each function does what its definition in specs/Store.antt says of the first `count` entries, on any content. Of the public ones only
 // `release` asks something, that the block descends and that its records have room; the others ask of their callers here that a place lies inside
 // the store or the output, and that verdicts noted so far are true. proofs/{Filled, Ancestry, Linked, Kept}.antt have the laws.
-// Rests on `codec`, `wire`, the bits of `certificate` and the shared modules of `walks`. Every decision is a function by value; the others move whole blocks.
+// Rests on `codec`, `wire` and the bits of `certificate`. Every decision is a function by value; the others move whole blocks.
 #![tactic(auto)]
 
 ghost use Rattle.std.specs.Prelude.{◌≡◌, true, false, cond, ◌+◌, ◌*◌, ◌^◌, ◌<◌, ◌≤◌, ltb, length, set, get_or, take};

@@ -1,6 +1,6 @@
 // The replica's counters: one record that every call updates, lent by the host. The calls of `replica` copy it out, the functions here make the
 // next one by value, and the calls store that whole. Promises: each function leaves what its definition in specs/ says.
-// Any bits are a value of it: numbers and names only. Rests on `settings`, `wire`, `certificate`, `blocks` and the shared modules of `walks`.
+// Any bits are a value of it: numbers and names only. Rests on `settings`, `wire`, `certificate` and `blocks`.
 #![tactic(auto)]
 
 ghost use Rattle.std.specs.Prelude.{◌≡◌};
