@@ -1,4 +1,4 @@
--- The order serves safety: what it puts above is above by _⊑_, whatever the tie-break (01: Rank and safe block). Assumes nothing.
+-- The order serves safety: what it puts above is above by ◌⊑◌, whatever the tie-break (01: Rank and safe block). Assumes nothing.
 use mathlib.Core.Path.{◌≡◌, refl, sym, ◌∙◌}
 use mathlib.Core.Logic.{⊎_elim}
 use mathlib.Core.Bool.{Bool, true, false}

@@ -20,7 +20,7 @@ infix 4 ◌≼◌
 abbrev pub ◌≼◌ : Certificate → Certificate → Type 0
 a ≼ b = outranks a b ≡ false
 
--- a relation that the order decides, one way or the other: what is proved of all of them holds of _⊑_ and of _≼_
+-- a relation that the order decides, one way or the other: what is proved of all of them holds of ◌⊑◌ and of ◌≼◌
 pub record Decided (R : Certificate → Certificate → Type 0) : Type 0 where
   pub same : (a : Certificate) → R a a
   pub trans : {a b c : Certificate} → R a b → R b c → R a c

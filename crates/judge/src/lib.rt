@@ -1,8 +1,8 @@
 // The judgement of each call: 01's number of the refusal, 0 where the call is accepted. Over counters by value, lent memory and a record; no
 // writes. A call first judges all that needs no store and learns what is to be looked up there (`Want`); with what was found the rest is judged.
 // Promises: for any counters, memory, lengths and record, both numbers are those of the lists of `protocol`, in 01's order; together they are
-// the call's answer (proofs/Whole.antt: record-judged, propose-judged, timer-judged). Of a call that comes with contents (02, 2.5) `contents` says what these refuse it by: that, or else
-// the call without them, is the call (record-core-with, propose-core-with). Rests on `refusals`, `shape`, `certificate`, `memory` and `digest`.
+// the call's answer (proofs/Whole.antt: record_judged_lem, propose_judged_lem, timer_judged_lem). Of a call that comes with contents (02, 2.5) `contents` says what these refuse it by: that, or else
+// the call without them, is the call (record_core_with_lem, propose_core_with_lem). Rests on `refusals`, `shape`, `certificate`, `memory` and `digest`.
 #![tactic(auto)]
 
 pub mod chain;

@@ -1,7 +1,7 @@
 // Each call beside its visits to the store: the rest of its judgement, with what was found there; and, of a call that is accepted, the event and the rules A, B
 // and C, over counters by value, the lent memory and the output region. What is left to the caller has no decision: to fill a block in at a place, and to run
 // rule D so many turns. Promises: for every store that fits what was found there, the number is that of the lists of `protocol` (proofs/Deciding.antt:
-// record-judges, propose-judges); an accepted call leaves what event and rules of `protocol` leave, and a refused one all as it was (proofs/Calls.antt).
+// record_judges, propose_judges); an accepted call leaves what event and rules of `protocol` leave, and a refused one all as it was (proofs/Calls.antt).
 // Rests on `judge`, `event` and `rules`.
 #![tactic(auto)]
 

@@ -23,7 +23,7 @@ use Rattle.safety.proofs.Lists.{all_in}
 use Rattle.safety.proofs.Rank.{⊑_refl, ⊑_trans}
 use Rattle.safety.proofs.Select.{timeout_cert}
 
--- the order decides _⊑_, one way or the other
+-- the order decides ◌⊑◌, one way or the other
 same_order : {a b : Certificate} → Rattle.certificate.specs.Order.◌⊑◌ a b → cert a ⊑ cert b
 same_order p = record { view_le = p.view_le; block_kept = p.block_kept }
 

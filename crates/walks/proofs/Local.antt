@@ -1,7 +1,7 @@
 -- Locals that a walk lends for one call, and slices that a call returns, as steps. They say nothing of the crate.
---     lend-local, back-local    a local that holds a struct of plain data is lent as a `&mut S`, for a lifetime ν that is made for the call, under the name δ; and is back at the value that the callee left
---     lend-ref, back-ref        a `&κ mut S` is lent again, and comes back
---     lend-array, back-array    a local array is lent as a `&mut [T]`; and its memory is back.        repeated, repeat-typed     the relation of `[v; n]`, and that its machine value has the array's type
+--     lend_local, back_local    a local that holds a struct of plain data is lent as a `&mut S`, for a lifetime ν that is made for the call, under the name δ; and is back at the value that the callee left
+--     lend_ref, back_ref        a `&κ mut S` is lent again, and comes back
+--     lend_array, back_array    a local array is lent as a `&mut [T]`; and its memory is back.        repeated, repeat-typed     the relation of `[v; n]`, and that its machine value has the array's type
 --     came_held        as `came` of `Calls.antt`, where the result is no plain data: what it owns is kept, in front of the locals
 --     forks            a branch with code behind it
 -- Before:   [the local; …]     while it is lent:   [ν's token; the reference; the lender's part; …]     after:   [the local; …]
