@@ -5,7 +5,7 @@ use mathlib.Core.List.{List, [], ◌∷◌}
 use Prim.Native.Nat.{ℕ, zero, suc, ◌+◌, ◌≤◌, ◌<◌}
 use native.Mathlib.Numerals.{add-one}
 use native.Mathlib.Omega.{arith}
-use borrow.Author.Tests.{le-leb, lt-leb, lt-ltb, le-ltb, eq-eqb, ne_eqb, leb-false, eqb-false, ltb-false}
+use borrow.Author.Tests.{le-leb, lt-leb, le-ltb, ne_eqb, leb-false, eqb-false, ltb-false}
 use lib.Dec.{eqb, ltb, leb}
 use lib.ListN.{length, take, drop, get_or, drop_of_length-le}
 use lib.Seq.{drop-cons}
@@ -28,18 +28,6 @@ module _ (n : ℕ) (l : List ℕ) (i : ℕ) where
 
 -- ---- by the lengths
 module _ (n : ℕ) (l : List ℕ) where
-  or_true : (a : Bool) → (a || true) ≡ true
-  or_true true = refl
-  or_true false = refl
-
-  pub none_bad : length l ≡ 0 → bad_leaders n l ≡ true
-  unfolding bad_leaders
-  none_bad e = rw (eq-eqb _ _ e) (or_true (has_from n l))
-
-  pub long_bad : (length l ≡ 0 → ⊥) → most_leaders < length l → bad_leaders n l ≡ true
-  unfolding bad_leaders
-  long_bad d h = rw (ne_eqb _ _ d, lt-ltb _ _ h) (or_true (has_from n l))
-
   pub sized_bad : (length l ≡ 0 → ⊥) → length l ≤ most_leaders → bad_leaders n l ≡ has_from n l
   unfolding bad_leaders
   sized_bad d h = rw (ne_eqb _ _ d, le-ltb _ _ h) (or_false (has_from n l))

@@ -1,9 +1,7 @@
 -- Which five numbers and which leader list an opening takes (01: Settings and thresholds; Refusals, place "opening"; 02: 2.1, 2.2). Assumes nothing.
 use Rattle.std.specs.Prelude.{ℕ, zero, suc, Bool, false, not, ◌||◌, List, [], ◌∷◌, ◌++◌, eqb, ltb, leb, length}
 use Rattle.settings.specs.declared.Settings.{Settings}
-use Rattle.settings.specs.declared.Admission.{Admission}
-use Rattle.settings.specs.declared.Admission.TheVariants.{Admitted, Refused}
-use Rattle.settings.specs.Answer.{Answer, accepts, refuses, Rule, ◌⇒◌, judge}
+use Rattle.settings.specs.Answer.{Answer, Rule, ◌⇒◌, judge}
 use Rattle.settings.specs.Quorum.{largest, replicas}
 
 -- "settings break a rule above"; of 01's rules above, 02, 2.2 takes the bound on k away: "every k ≥ 0 is taken as long as n is at most 32"
@@ -19,11 +17,6 @@ opening_rules s n own = settings_rules s n ++ (leb n own ⇒ 1 ∷ [])
 
 unfoldable pub opening : ℕ → ℕ → ℕ → ℕ → ℕ → Answer Settings
 opening f c k n own = let s : Settings = record { f = f; c = c; k = k } in judge (opening_rules s n own) s
-
--- what the enum's cases mean
-unfoldable pub admission : Admission → Answer Settings
-admission (Admitted s) = accepts s
-admission Refused = refuses 1
 
 -- ---- 02, 2.1: "The opening takes a list of 1 to 64 box numbers"
 abbrev pub most_leaders : ℕ

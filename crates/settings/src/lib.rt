@@ -5,11 +5,16 @@
 
 ghost use Rattle.std.specs.Prelude.{◌≡◌};
 ghost use Rattle.settings.specs.Quorum.{replicas, slack, block_quorum, weak_quorum, timeout_quorum, slow_quorum, fast_quorum};
-ghost use Rattle.settings.specs.Opening.{admission, opening, has_from, bad_leaders};
+ghost use Rattle.settings.specs.Opening.{opening, has_from, bad_leaders};
+ghost use Rattle.settings.specs.Refusal.{answer};
+
+pub mod refusal;
+
+pub use refusal::Refusal;
 
 // A view number. Views and heights are types of their own, so that no code compares or adds one to the other.
 #[repr(C)]
-#[derive(Clone, Copy)]
+#[derive(Clone, Copy, PartialEq, Eq, PartialOrd, Ord)]
 pub struct View(pub u64);
 
 impl View {
@@ -19,7 +24,7 @@ impl View {
 
 // A block's height: the number of its ancestors.
 #[repr(C)]
-#[derive(Clone, Copy)]
+#[derive(Clone, Copy, PartialEq, Eq, PartialOrd, Ord)]
 pub struct Height(pub u64);
 
 impl Height {
@@ -83,41 +88,22 @@ impl Settings {
     }
 }
 
-// The answer to an opening: the settings, or refusal 1.
-#[derive(Clone, Copy)]
-pub enum Admission {
-    Admitted(Settings),
-    Refused,
-}
-
-// Any five numbers may come in. The first three tests keep the sums small; settings that they turn away have n over the largest.
-pub fn admit(f: u64, c: u64, k: u64, n: u64, own: u64) -> Admission
-    ensures { admission result ≡ opening f c k n own }
+// Any five numbers may come in. The first test keeps the sums small; settings that it turns away have n over the largest.
+pub fn admit(f: u64, c: u64, k: u64, n: u64, own: u64) -> Result<Settings, Refusal>
+    ensures { answer result ≡ opening f c k n own }
 {
-    if Settings::LARGEST < f {
-        return Admission::Refused;
-    }
-    if Settings::LARGEST < c {
-        return Admission::Refused;
-    }
-    if Settings::LARGEST < k {
-        return Admission::Refused;
+    if Settings::LARGEST < f || Settings::LARGEST < c || Settings::LARGEST < k {
+        return Err(Refusal::Settings);
     }
     let settings = Settings {
         f: f as u16,
         c: c as u16,
         k: k as u16,
     };
-    if n != settings.n() {
-        return Admission::Refused;
+    if n != settings.n() || Settings::LARGEST < n || n <= own {
+        return Err(Refusal::Settings);
     }
-    if Settings::LARGEST < n {
-        return Admission::Refused;
-    }
-    if n <= own {
-        return Admission::Refused;
-    }
-    Admission::Admitted(settings)
+    Ok(settings)
 }
 
 // A leader list has at most so many entries.
@@ -127,12 +113,10 @@ pub const MOST_LEADERS: usize = 64;
 fn has_from(n: u64, leaders: &[u8]) -> bool
     ensures { result ≡ has_from n leaders.now }
 {
-    let mut i = 0;
-    while i < leaders.len() {
-        if n <= leaders[i] as u64 {
+    for &leader in leaders {
+        if n <= leader as u64 {
             return true;
         }
-        i += 1;
     }
     false
 }
@@ -141,11 +125,5 @@ fn has_from(n: u64, leaders: &[u8]) -> bool
 pub fn bad_leaders(n: u64, leaders: &[u8]) -> bool
     ensures { result ≡ bad_leaders n leaders.now }
 {
-    if leaders.len() == 0 {
-        return true;
-    }
-    if MOST_LEADERS < leaders.len() {
-        return true;
-    }
-    has_from(n, leaders)
+    leaders.is_empty() || MOST_LEADERS < leaders.len() || has_from(n, leaders)
 }

@@ -1,12 +1,13 @@
-use mathlib.Core.Path.{sym, ◌∙◌}
-use Rattle.settings.proofs.Leaders.{none_bad, long_bad, sized_bad}
+use Rattle.std.proofs.lemmas.Grind.{common_steps}
+use Rattle.std.proofs.lemmas.Bool.Decides.{nat_tests}
+use Rattle.settings.specs.Opening.{bad_leaders}
+use native.Mathlib.Omega.{arith}
 use Rattle.settings.proofs.bad_leaders.Goals as goal
 
-pub returns-then-leaders-eq0 : goal.returns-then-leaders-eq0
-returns-then-leaders-eq0 c = let a = c.args in sym (none_bad a.n a.leaders.now c.if-leaders-eq0.true)
-
 pub returns-then-leaders-gt-MOST_LEADERS : goal.returns-then-leaders-gt-MOST_LEADERS
-returns-then-leaders-gt-MOST_LEADERS c = let a = c.args in sym (long_bad a.n a.leaders.now c.if-leaders-eq0.false c.if-leaders-gt-MOST_LEADERS.true)
+unfolding bad_leaders
+returns-then-leaders-gt-MOST_LEADERS c = grind (arith, common_steps, nat_tests)
 
-pub returns : goal.returns
-returns c = let a = c.args in c.has_from.ensures ∙ sym (sized_bad a.n a.leaders.now c.if-leaders-eq0.false c.if-leaders-gt-MOST_LEADERS.false)
+pub returns-else-leaders-gt-MOST_LEADERS : goal.returns-else-leaders-gt-MOST_LEADERS
+unfolding bad_leaders
+returns-else-leaders-gt-MOST_LEADERS c = grind (arith, common_steps, nat_tests)
