@@ -5,7 +5,7 @@ use Prim.Native.Nat.{ℕ, zero, suc, ◌+◌, ◌-◌, ◌≤◌, ◌<◌}
 use native.Mathlib.Numerals.{add-one}
 use native.Mathlib.Nat.{add-zero, add-suc, add-sub_cancel_left, add-sub_of_le}
 use native.Mathlib.Omega.{arith}
-use lib.ListN.{length, take, drop, get_or, set, length-set, length-drop, replicate}
+use lib.ListN.{length, take, drop, get_or, set, length-set, length-drop}
 use lib.Seq.{drop-cons, get_or-set_same, get_or-set_other, drop-set-lt, drop-set-add, take-set-le, ext_get_or, get_or-drop, get_or-take, set_comm, set-set, set-get_or, length-take-le, take_all, drop-drop}
 use mathlib.Core.Bool.{Bool, true, false, ◌||◌}
 use mathlib.Core.Logic.{⊎_elim, ◌⊎◌, inl, inr}
@@ -143,18 +143,6 @@ part-part s at n i k h l =
 -- the rest of a list, `&s[at..]`
 pub part_rest : (s : List ℕ) (at : ℕ) → take (length s - at) (drop at s) ≡ drop at s
 part_rest s at = take_all (length s - at) (drop at s) (simp length-drop (omega arith))
-
--- one turn of the loop that clears, and its end
-pub clear_turn : (s : List ℕ) (at i n x : ℕ) → i < n → patch (set s (at + i) x) (at + (i + 1)) (replicate (n - (i + 1)) x) ≡ patch s (at + i) (replicate (n - i) x)
-unfolding patch
-clear_turn s at i n x h =
-    let e : n - i ≡ suc (n - (i + 1)) = omega arith in
-    let f : at + (i + 1) ≡ suc (at + i) = omega arith in
-    rw (e, f)
-
-pub clear_end : (s : List ℕ) (at i n x : ℕ) → n ≤ i → patch s at (replicate (n - i) x) ≡ s
-unfolding patch
-clear_end s at i n x h = let e : n - i ≡ 0 = omega arith in rw e
 
 pub patch_append : (s : List ℕ) (at : ℕ) (v w : List ℕ) → patch s at (v ++ w) ≡ patch (patch s at v) (at + length v) w
 unfolding patch

@@ -5,11 +5,12 @@ use Prim.Native.Nat.{ℕ, zero, suc, ◌+◌, ◌*◌, ◌-◌, ◌/◌, ◌%◌
 use native.Mathlib.Numerals.{add-one}
 use native.Mathlib.Nat.{lt_of_lt_of_le, pow-le-pow_right, pow-suc}
 use native.Mathlib.Omega.{arith}
-use lib.ListN.{length, take, drop, get_or, length-take}
-use lib.Seq.{drop-cons, get_or-drop}
+use lib.ListN.{length, take, drop, length-take}
+use lib.Seq.{get_or-drop, take-suc-set, take_all}
+use Rattle.std.proofs.Common.{append_assoc, append-nil}
 use lib.Dec.{lit<}
 use lib.ListN.{set}
-use Rattle.codec.specs.Bytes.{IsBytes, le_nat, le_bytes, part, patch}
+use Rattle.codec.specs.Bytes.{IsBytes, le_nat, le_bytes, part}
 
 pub bytes_drop : (n : ℕ) (s : List ℕ) → IsBytes s → IsBytes (drop n s)
 bytes_drop n s b i = rw get_or-drop (b (n + i))
@@ -43,11 +44,6 @@ unfolding part
 le_nat-part k s at b =
     le_nat_below k (take k (drop at s)) (bytes_take k (drop at s) (bytes_drop at s b)) (simp length-take (omega arith))
 
--- one more byte in front
-pub le_nat_turn : (s : List ℕ) (i : ℕ) → i < length s → le_nat (drop i s) ≡ get_or s i 0 + 256 * le_nat (drop (i + 1) s)
-unfolding le_nat
-le_nat_turn s i h = rw (add-one, drop-cons s i 0)
-
 pub length-le_bytes : (k n : ℕ) → length (le_bytes k n) ≡ k
 unfolding le_bytes
 length-le_bytes zero n = refl
@@ -69,18 +65,16 @@ le_bytes-le_nat (x ∷ s) b =
     ap₂ (λ (y : ℕ) (t : List ℕ). y ∷ t) (omega arith)
     (ap (λ (m : ℕ). le_bytes (length s) m) (omega arith) ∙ le_bytes-le_nat s (λ i. b (suc i)))
 
-pub le_nat_nil : le_nat [] ≡ 0
-unfolding le_nat
-le_nat_nil = refl
-
 -- one turn of the loop that writes, and its end
-pub put_le_turn : (s : List ℕ) (at i k y : ℕ) → i < k → patch (set s (at + i) (y % 256)) (at + (i + 1)) (le_bytes (k - (i + 1)) (y / 256)) ≡ patch s (at + i) (le_bytes (k - i) y)
-unfolding patch le_bytes
-put_le_turn s at i k y h =
+pub put_le_turn : (s : List ℕ) (i k y : ℕ) → i < length s → i < k → take (i + 1) (set s i (y % 256)) ++ le_bytes (k - (i + 1)) (y / 256) ≡ take i s ++ le_bytes (k - i) y
+unfolding le_bytes
+put_le_turn s i k y h l =
     let e : k - i ≡ suc (k - (i + 1)) = omega arith in
-    let f : at + (i + 1) ≡ suc (at + i) = omega arith in
-    rw (e, f)
+    rw (e, add-one, take-suc-set s i (y % 256), append_assoc)
 
-pub patch_none : (s : List ℕ) (at y : ℕ) → patch s at (le_bytes 0 y) ≡ s
-unfolding patch le_bytes
-patch_none s at y = refl
+pub put_le_end : (s : List ℕ) (i k y : ℕ) → length s ≡ k → k ≤ i → take i s ++ le_bytes (k - i) y ≡ s
+unfolding le_bytes
+put_le_end s i k y h l =
+    let e : k - i ≡ 0 = omega arith in
+    let all : length s ≤ i = omega arith in
+    rw (e, take_all i s, append-nil)

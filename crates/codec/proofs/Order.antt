@@ -3,34 +3,12 @@ use mathlib.Core.Path.{◌≡◌, refl, sym, ap, ap₂, ◌∙◌}
 use mathlib.Core.Logic.{◌⊎◌, inl, inr, ⊎_elim}
 use mathlib.Core.Bool.{Bool, true, false, ◌&&◌, ◌||◌, true≢false, false≢true}
 use mathlib.Core.List.{List, [], ◌∷◌}
-use Prim.Native.Nat.{ℕ, ◌+◌, ◌≤◌, ◌<◌}
-use native.Mathlib.Numerals.{add-one}
+use Prim.Native.Nat.{ℕ, ◌<◌}
 use native.Mathlib.Nat.{le_of_eq}
 use native.Mathlib.Omega.{arith}
-use borrow.Author.Tests.{lt-ltb, le-ltb, eq-eqb, ne_eqb, ltb-true, ltb-false, eqb-true, eqb-false}
-use lib.ListN.{length, drop, get_or, drop_of_length-le}
-use lib.Seq.{drop-cons}
+use borrow.Author.Tests.{lt-ltb, le-ltb, eq-eqb, ltb-true, ltb-false, eqb-true, eqb-false}
 use lib.Dec.{eqb, ltb}
 use Rattle.codec.specs.Names.{same_bytes, less_bytes}
-
--- ---- one turn of a loop that compares, by what it finds at i, and its end
-module _ (a b : List ℕ) (i : ℕ) (ha : i < length a) (hb : i < length b) where
-  pub same_on : get_or a i 0 ≡ get_or b i 0 → same_bytes (drop i a) (drop i b) ≡ same_bytes (drop (i + 1) a) (drop (i + 1) b)
-  unfolding same_bytes
-  same_on e = rw (add-one, drop-cons a i 0, drop-cons b i 0, eq-eqb _ _ e)
-
-  pub same_not : (get_or a i 0 ≡ get_or b i 0 → ⊥) → same_bytes (drop i a) (drop i b) ≡ false
-  unfolding same_bytes
-  same_not e = rw (drop-cons a i 0, drop-cons b i 0, ne_eqb _ _ e)
-
-module _ (a b : List ℕ) (i : ℕ) (ha : length a ≤ i) (hb : length b ≤ i) where
-  pub same_end : same_bytes (drop i a) (drop i b) ≡ true
-  unfolding same_bytes
-  same_end = rw (drop_of_length-le a, drop_of_length-le b)
-
-  pub less_end : less_bytes (drop i a) (drop i b) ≡ false
-  unfolding less_bytes
-  less_end = rw (drop_of_length-le a, drop_of_length-le b)
 
 -- ---- the same bytes: it decides equality
 pub same_refl : (a : List ℕ) → same_bytes a a ≡ true

@@ -1,4 +1,4 @@
--- A part of a list of bytes and a list with a part replaced; numbers as little-endian bytes (01: Records), and as big-endian ones, by which names are compared. Assumes nothing.
+-- A part of a list of bytes and a list with a part replaced; numbers as little-endian bytes (01: Records), and as big-endian ones. Assumes nothing.
 use Rattle.std.specs.Prelude.{ℕ, zero, suc, ◌+◌, ◌*◌, ◌/◌, ◌%◌, ◌<◌, List, [], ◌∷◌, take, drop, set, get_or}
 
 -- every element is a byte
