@@ -3,14 +3,15 @@ use mathlib.Core.Path.{◌≡◌, refl, sym, ap, ap₂, ◌∙◌}
 use mathlib.Core.List.{List, [], ◌∷◌, ◌++◌, append-nil, append_assoc}
 use Prim.Native.Nat.{ℕ, zero, suc, ◌+◌, ◌*◌, ◌-◌, ◌/◌, ◌%◌, ◌^◌, ◌≤◌, ◌<◌}
 use native.Mathlib.Numerals.{add-one}
-use native.Mathlib.Nat.{add-zero, zero-add, mul_comm, mul_assoc, pow-suc, mod-lt, mod-mod_of_dvd, dvd-mul_left}
+use native.Mathlib.Nat.{add-zero, zero-add, div-one, mul_comm, mul_assoc, pow-suc, mod-lt, mod-mod_of_dvd, dvd-mul_left}
 use native.Mathlib.Omega.{arith}
-use lib.ListN.{length, take, drop, get_or, set, replicate, length-append, length-drop, length-replicate, length-set, take-append-drop, drop_of_length-le, replicate-append-replicate}
+use lib.ListN.{length, take, drop, get_or, set, replicate, length-append, length-replicate, length-set, take-append-drop, drop_of_length-le, replicate-append-replicate}
 use lib.Dec.{lit<, lit≤}
 use lib.Pow.{pow-add}
 use lib.Arith.{mod-mul, digits_div}
 use lib.Seq.{drop-cons, take-suc-set, take_all, take_at, drop_at, set_at, drop-set-lt, drop-drop, length-take-le}
-use Rattle.codec.specs.Bytes.{IsBytes, part, patch}
+use Rattle.std.specs.Int.{w32, w64, to_be_bytes}
+use Rattle.codec.specs.Bytes.{IsBytes, patch}
 use Rattle.codec.proofs.Laws.{patch_append, patch_whole}
 use Rattle.codec.proofs.Le.{bytes_append}
 use Rattle.digest.specs.declared.Words.{Words}
@@ -19,7 +20,7 @@ use Rattle.digest.specs.Laws.{PaddingSolves, PaddingIsLeast, WholeBlocks, Digest
 
 -- ---- blocks
 
-absorb_block : (H : Words) (b s : List ℕ) → length b ≡ 64 → absorb H (b ++ s) ≡ absorb (compress H b) s
+pub absorb_block : (H : Words) (b s : List ℕ) → length b ≡ 64 → absorb H (b ++ s) ≡ absorb (compress H b) s
 unfolding absorb blocks
 absorb_block H b s e =
     let f : length (b ++ s) / 64 ≡ suc (length s / 64) = omega (arith, length-append b s) in
@@ -30,13 +31,17 @@ absorb_one : (H : Words) (b : List ℕ) → length b ≡ 64 → absorb H b ≡ c
 unfolding absorb blocks
 absorb_one H b e = ap (λ (k : ℕ). blocks (k / 64) H b) e ∙ ap (λ (x : List ℕ). compress H x) (take_all 64 b (omega arith))
 
--- one turn of the loop over a message's blocks
-pub absorb_turn : (H : Words) (s p : List ℕ) (i : ℕ) → i + 64 ≤ length s → absorb (compress H (part s i 64)) (drop (i + 64) s ++ p) ≡ absorb H (drop i s ++ p)
-unfolding part
-absorb_turn H s p i h =
-    ap (λ (x : List ℕ). absorb (compress H (take 64 (drop i s))) (x ++ p)) (sym (drop-drop 64 i s))
-    ∙ sym (absorb_block H (take 64 (drop i s)) (drop 64 (drop i s) ++ p) (length-take-le 64 (drop i s) (simp length-drop (omega arith))))
-    ∙ ap (λ (x : List ℕ). absorb H x) (sym (append_assoc (take 64 (drop i s)) (drop 64 (drop i s)) p) ∙ ap (λ (x : List ℕ). x ++ p) (take-append-drop 64 (drop i s)))
+-- what is left of a message behind its whole blocks: one block fewer in front of it, and no block in front of it
+abbrev pub behind_blocks : List ℕ → List ℕ
+behind_blocks s = drop (length s - length s % 64) s
+
+pub behind_block : (b s : List ℕ) → length b ≡ 64 → behind_blocks (b ++ s) ≡ behind_blocks s
+behind_block b s e =
+    let f : length (b ++ s) - length (b ++ s) % 64 ≡ 64 + (length s - length s % 64) = omega (arith, length-append b s) in
+    ap (λ (k : ℕ). drop k (b ++ s)) f ∙ sym (drop-drop (length s - length s % 64) 64 (b ++ s)) ∙ ap (drop (length s - length s % 64)) (drop_at b s 64 e)
+
+pub behind_none : (s : List ℕ) → length s < 64 → behind_blocks s ≡ s
+behind_none s h = let e : length s - length s % 64 ≡ 0 = omega arith in ap (λ (k : ℕ). drop k s) e
 
 -- ---- patches
 
@@ -77,6 +82,15 @@ pub length-be_bytes : (n x : ℕ) → length (be_bytes n x) ≡ n
 unfolding be_bytes
 length-be_bytes zero x = refl
 length-be_bytes (suc n) x = ap suc (length-be_bytes n x)
+
+-- the bytes that the language's library makes of a number
+pub written_4 : (x : ℕ) → to_be_bytes w32 x ≡ be_bytes 4 x
+unfolding be_bytes
+written_4 x = rw (div-one x)
+
+pub written_8 : (x : ℕ) → to_be_bytes w64 x ≡ be_bytes 8 x
+unfolding be_bytes
+written_8 x = rw (div-one x)
 
 -- the low bytes of a number that wrapped
 pow_pos : (k : ℕ) → 0 < 256 ^ k

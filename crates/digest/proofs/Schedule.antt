@@ -7,7 +7,8 @@ use native.Mathlib.Omega.{arith}
 use lib.ListN.{length, take, drop, set, length-append, drop_of_length-le, get_or-append}
 use native.Mathlib.Nat.{add-zero, le_refl}
 use lib.Seq.{get_or_at, drop-cons, take-suc-set, get_or-take, length-take-le}
-use Rattle.codec.specs.Bytes.{be_nat, part}
+use Rattle.std.specs.Int.{w32, from_be_bytes}
+use Rattle.codec.specs.Bytes.{be_nat, be_from, part}
 use Rattle.codec.proofs.Laws.{part-drop}
 use Rattle.digest.specs.declared.Words.{Words}
 use Rattle.digest.specs.Sha256.{◌!◌, words, next, extend, schedule, round, rounds, K}
@@ -23,6 +24,11 @@ part_four s at h =
     let e₂ : at + 2 ≡ suc (suc at) = omega arith in
     let e₃ : at + 3 ≡ suc (suc (suc at)) = omega arith in
     rw (e₁, e₂, e₃, drop-cons s at 0 (omega arith), drop-cons s (suc at) 0 (omega arith), drop-cons s (suc (suc at)) 0 (omega arith), drop-cons s (suc (suc (suc at))) 0 (omega arith))
+
+-- their number, as the language's library reads it
+pub read_four : (a b c d : ℕ) → from_be_bytes w32 (a ∷ b ∷ c ∷ d ∷ []) ≡ be_nat (a ∷ b ∷ c ∷ d ∷ [])
+unfolding be_from
+read_four a b c d = omega arith
 
 words_more : (n : ℕ) (s : List ℕ) → words (suc n) s ≡ words n s ++ (be_nat (part s (4 * n) 4) ∷ [])
 unfolding words part

@@ -1,10 +1,10 @@
 // One block: the message schedule and the rounds (6.2.2).
-ghost use Rattle.std.specs.Prelude.{◌≡◌, ◌+◌, ◌≤◌, ◌<◌, length};
+ghost use Rattle.std.specs.Prelude.{◌≡◌, ℕ, List, ◌+◌, ◌≤◌, ◌<◌, length};
 ghost use Rattle.digest.specs.Sha256.{K, H⁰, T₁, T₂, round, plus, next, compress};
-ghost use Rattle.digest.specs.Turns.{run, word_of, turn, turns};
+ghost use Rattle.digest.specs.Turns.{Makes, run, turns};
 
 use crate::Words;
-use crate::word::{add, big0, big1, ch, maj, small0, small1, word_at};
+use crate::word::{big0, big1, ch, maj, small0, small1, word_at};
 
 fn constants() -> [u32; 64]
     ensures { result ≡ K }
@@ -42,23 +42,26 @@ fn next(w: &[u32; 64], t: usize) -> u32
     requires { (16 ≤ t) × (t < 64) }
     ensures { result ≡ next t w.now }
 {
-    add(
-        add(add(small1(w[t - 2]), w[t - 7]), small0(w[t - 15])),
-        w[t - 16],
-    )
+    small1(w[t - 2])
+        .wrapping_add(w[t - 7])
+        .wrapping_add(small0(w[t - 15]))
+        .wrapping_add(w[t - 16])
 }
 
 // In this order, not the standard's, the first two sums need neither Ch nor Σ₁: they can be computed at the same time, once compiled.
 fn t1(v: Words, k: u32, w: u32) -> u32
     ensures { result ≡ T₁ v k w }
 {
-    add(add(add(add(v.h, k), w), ch(v.e, v.f, v.g)), big1(v.e))
+    v.h.wrapping_add(k)
+        .wrapping_add(w)
+        .wrapping_add(ch(v.e, v.f, v.g))
+        .wrapping_add(big1(v.e))
 }
 
 fn t2(v: Words) -> u32
     ensures { result ≡ T₂ v }
 {
-    add(big0(v.a), maj(v.a, v.b, v.c))
+    big0(v.a).wrapping_add(maj(v.a, v.b, v.c))
 }
 
 fn round(v: Words, k: u32, w: u32) -> Words
@@ -67,11 +70,11 @@ fn round(v: Words, k: u32, w: u32) -> Words
     let x = t1(v, k, w);
     let y = t2(v);
     Words {
-        a: add(x, y),
+        a: x.wrapping_add(y),
         b: v.a,
         c: v.b,
         d: v.c,
-        e: add(v.d, x),
+        e: v.d.wrapping_add(x),
         f: v.e,
         g: v.f,
         h: v.g,
@@ -82,64 +85,35 @@ fn plus(x: Words, y: Words) -> Words
     ensures { result ≡ plus x y }
 {
     Words {
-        a: add(x.a, y.a),
-        b: add(x.b, y.b),
-        c: add(x.c, y.c),
-        d: add(x.d, y.d),
-        e: add(x.e, y.e),
-        f: add(x.f, y.f),
-        g: add(x.g, y.g),
-        h: add(x.h, y.h),
+        a: x.a.wrapping_add(y.a),
+        b: x.b.wrapping_add(y.b),
+        c: x.c.wrapping_add(y.c),
+        d: x.d.wrapping_add(y.d),
+        e: x.e.wrapping_add(y.e),
+        f: x.f.wrapping_add(y.f),
+        g: x.g.wrapping_add(y.g),
+        h: x.h.wrapping_add(y.h),
     }
 }
 
-// A round with word t of the block.
-fn first(v: Words, w: &mut [u32; 64], k: &[u32; 64], m: &[u8], t: usize) -> Words
-    requires { (t < 16) × (64 ≤ length m.now) }
-    ensures { run w.new result ≡ turn (word_of m.now) k.now t (run w.old v) }
+// Eight rounds from round t on, after which each working variable is back in its place. `word` makes the word of a round out of those before it.
+fn eight<F: Fn(&[u32; 64], usize) -> u32>(
+    mut v: Words,
+    w: &mut [u32; 64],
+    k: &[u32; 64],
+    t: usize,
+    word: F,
+) -> Words
+    requires inside { t + 8 ≤ 64 }
+    requires callable { (s : _) (i : ℕ) → t ≤ i → i < t + 8 → F.pre word s i }
+    ensures { (f : ℕ → List ℕ → ℕ) → Makes (F.post word) f t → run w.new result ≡ turns f k.now t 8 (run w.old v) }
 {
-    let x = word_at(m, 4 * t);
-    w[t] = x;
-    round(v, k[t], x)
-}
-
-// A round with word t of the schedule.
-fn later(v: Words, w: &mut [u32; 64], k: &[u32; 64], t: usize) -> Words
-    requires { (16 ≤ t) × (t < 64) }
-    ensures { run w.new result ≡ turn next k.now t (run w.old v) }
-{
-    let x = next(w, t);
-    w[t] = x;
-    round(v, k[t], x)
-}
-
-// Eight rounds, after which each working variable is back in its place.
-fn first_eight(v: Words, w: &mut [u32; 64], k: &[u32; 64], m: &[u8], t: usize) -> Words
-    requires { (t + 8 ≤ 16) × (64 ≤ length m.now) }
-    ensures { run w.new result ≡ turns (word_of m.now) k.now t 8 (run w.old v) }
-{
-    let v1 = first(v, w, k, m, t);
-    let v2 = first(v1, w, k, m, t + 1);
-    let v3 = first(v2, w, k, m, t + 2);
-    let v4 = first(v3, w, k, m, t + 3);
-    let v5 = first(v4, w, k, m, t + 4);
-    let v6 = first(v5, w, k, m, t + 5);
-    let v7 = first(v6, w, k, m, t + 6);
-    first(v7, w, k, m, t + 7)
-}
-
-fn later_eight(v: Words, w: &mut [u32; 64], k: &[u32; 64], t: usize) -> Words
-    requires { (16 ≤ t) × (t + 8 ≤ 64) }
-    ensures { run w.new result ≡ turns next k.now t 8 (run w.old v) }
-{
-    let v1 = later(v, w, k, t);
-    let v2 = later(v1, w, k, t + 1);
-    let v3 = later(v2, w, k, t + 2);
-    let v4 = later(v3, w, k, t + 3);
-    let v5 = later(v4, w, k, t + 4);
-    let v6 = later(v5, w, k, t + 5);
-    let v7 = later(v6, w, k, t + 6);
-    later(v7, w, k, t + 7)
+    for i in 0..8 {
+        let x = word(w, t + i);
+        w[t + i] = x;
+        v = round(v, k[t + i], x);
+    }
+    v
 }
 
 // Schedule and rounds go together, eight rounds a turn, which is faster than a loop for each. The constants are a local: an element of a `const` would
@@ -151,15 +125,11 @@ pub fn compress(h: Words, m: &[u8]) -> Words
     let k = constants();
     let mut w = [0u32; 64];
     let mut v = h;
-    let mut i = 0;
-    while i < 16 {
-        v = first_eight(v, &mut w, &k, m, i);
-        i += 8;
+    for t in (0..16).step_by(8) {
+        v = eight(v, &mut w, &k, t, |_, i| word_at(m, 4 * i));
     }
-    let mut t = 16;
-    while t < 64 {
-        v = later_eight(v, &mut w, &k, t);
-        t += 8;
+    for t in (16..64).step_by(8) {
+        v = eight(v, &mut w, &k, t, next);
     }
     plus(v, h)
 }

@@ -9,7 +9,7 @@ mod message;
 mod word;
 
 ghost use Rattle.std.specs.Prelude.{◌≡◌, ◌++◌};
-ghost use Rattle.settings.specs.Answer.{accepts, refuses};
+ghost use Rattle.settings.specs.Refusal.{answer};
 ghost use Rattle.codec.specs.Bytes.{le_bytes};
 ghost use Rattle.digest.specs.Name.{too_long, name_of, name_call, reply_of};
 
@@ -17,6 +17,7 @@ use codec::num::put_u64;
 use codec::put;
 use message::joined;
 pub use message::sha256;
+use settings::Refusal;
 
 // The longest contents of a block.
 pub const LONGEST_CONTENTS: usize = 4096;
@@ -34,7 +35,7 @@ pub struct Words {
     pub h: u32,
 }
 
-// 0 and the name, or 02's number of the refusal and the zero name.
+// What a C caller gets of a name call: 0 and the name, or 02's number of the refusal and the zero name.
 #[repr(C)]
 #[derive(Clone, Copy)]
 pub struct Named {
@@ -66,27 +67,26 @@ pub fn too_long(contents: &[u8]) -> bool
     LONGEST_CONTENTS < contents.len()
 }
 
-fn refused(refusal: u64) -> Named
-    ensures { result ≡ reply_of (refuses refusal) }
-{
-    Named {
-        refusal,
-        name: [0u8; 32],
-    }
-}
-
-fn accepted(name: [u8; 32]) -> Named
-    ensures { result ≡ reply_of (accepts name) }
-{
-    Named { refusal: 0, name }
-}
-
 // The name call. It takes any height.
-pub fn name(parent: [u8; 32], height: u64, contents: &[u8]) -> Named
-    ensures { result ≡ reply_of (name_call parent height contents.now) }
+pub fn name(parent: [u8; 32], height: u64, contents: &[u8]) -> Result<[u8; 32], Refusal>
+    ensures { answer result ≡ name_call parent height contents.now }
 {
     if too_long(contents) {
-        return refused(16);
+        return Err(Refusal::ContentsTooLong);
     }
-    accepted(name_of(parent, height, contents))
+    Ok(name_of(parent, height, contents))
+}
+
+impl From<Result<[u8; 32], Refusal>> for Named {
+    ghost from_gives = { λ named reply. reply ≡ reply_of (answer named) };
+
+    fn from(named: Result<[u8; 32], Refusal>) -> Named {
+        match named {
+            Ok(name) => Named { refusal: 0, name },
+            Err(refusal) => Named {
+                refusal: u64::from(refusal),
+                name: [0u8; 32],
+            },
+        }
+    }
 }

@@ -5,16 +5,14 @@ ghost use Rattle.digest.specs.Sha256.{H⁰, compress, absorb, padding, be_bytes,
 
 use crate::Words;
 use crate::block::{compress, start};
-use crate::word::{bytes4, bytes8};
 use codec::put;
 
 // The last block: the number of a message's bits stands in its last 8 bytes.
-fn close(h: Words, block: [u8; 64], n: usize) -> Words
+fn close(h: Words, mut block: [u8; 64], n: usize) -> Words
     ensures { result ≡ compress h (patch block 56 (be_bytes 8 (8 * n))) }
 {
-    let mut b = block;
-    put(&mut b, 56, &bytes8((n as u64) << 3));
-    compress(h, &b)
+    put(&mut block, 56, &((n as u64) << 3).to_be_bytes());
+    compress(h, &block)
 }
 
 // Less than a block is left of a message of n bytes.
@@ -38,24 +36,22 @@ fn finish(h: Words, s: &[u8], n: usize) -> Words
     requires { length s.now % 64 ≡ n % 64 }
     ensures { result ≡ absorb h (s.now ++ padding n) }
 {
+    let blocks = s.chunks_exact(64);
+    let rest = blocks.remainder();
     let mut v = h;
-    let mut i = 0;
-    while 64 <= s.len() - i {
-        v = compress(v, &s[i..i + 64]);
-        i += 64;
+    for block in blocks {
+        v = compress(v, block);
     }
-    last(v, &s[i..], n)
+    last(v, rest, n)
 }
 
 fn digest(h: Words) -> [u8; 32]
     ensures { result ≡ digest h }
 {
-    let x = [h.a, h.b, h.c, h.d, h.e, h.f, h.g, h.h];
+    let words = [h.a, h.b, h.c, h.d, h.e, h.f, h.g, h.h];
     let mut r = [0u8; 32];
-    let mut i = 0;
-    while i < 8 {
-        put(&mut r, 4 * i, &bytes4(x[i]));
-        i += 1;
+    for i in 0..8 {
+        put(&mut r, 4 * i, &words[i].to_be_bytes());
     }
     r
 }

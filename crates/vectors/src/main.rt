@@ -4,17 +4,15 @@
 // Promises: it is safe on any input and comes to its end. What it writes for published messages, in `stdin`, is held to `stdout`. Where a read or a write fails, it ends with the error. Rests on `digest`.
 #![tactic(auto)]
 
-ghost use Rattle.std.specs.Prelude.{◌*◌, ◌≤◌, length, IfOk};
+ghost use Rattle.std.specs.Prelude.{◌≤◌, ◌<◌, length, IfOk};
+ghost use Rattle.std.specs.Option.{SomeIff};
+ghost use Rattle.std.specs.Char.{digit_value};
 
-use codec::num::be_at;
 use std::io;
 use std::io::Read;
 
 // The most bytes that are read.
 const SPACE: usize = 65536;
-
-// What stands for the value of a character that is no digit.
-const NO_DIGIT: u8 = 16;
 
 // Reads until it is full, or the input ends.
 fn read_full(rt: &impl Input, space: &mut [u8]) -> io::Result<usize>
@@ -32,118 +30,55 @@ fn read_full(rt: &impl Input, space: &mut [u8]) -> io::Result<usize>
 }
 
 fn show(rt: &impl Print, digest: [u8; 32]) -> io::Result<()> {
-    let first = be_at(&digest, 0, 8);
-    let second = be_at(&digest, 8, 8);
-    let third = be_at(&digest, 16, 8);
-    let last = be_at(&digest, 24, 8);
-    print!(rt; "{first:016x}{second:016x}{third:016x}{last:016x}")
+    for byte in digest {
+        print!(rt; "{byte:02x}")?;
+    }
+    Ok(())
 }
 
 fn answer(rt: &impl Print, message: &[u8]) -> io::Result<()> {
     let digest = digest::sha256(message);
     show(rt, digest)?;
     print!(rt; " ")?;
-    let named = digest::name(digest, message.len() as u64, message);
-    if named.refusal == 0 {
-        show(rt, named.name)?;
-    } else {
-        print!(rt; "{}", named.refusal)?;
+    match digest::name(digest, message.len() as u64, message) {
+        Ok(name) => show(rt, name)?,
+        Err(refusal) => print!(rt; "{}", u64::from(refusal))?,
     }
     println!(rt; "")
 }
 
 // The value of a hexadecimal digit.
-fn value(c: u8) -> u8
-    ensures { result ≤ 16 }
+fn value(c: u8) -> Option<u8>
+    ensures { SomeIff result (digit_value c < 16) (digit_value c) }
 {
-    if c < b'0' {
-        return NO_DIGIT;
-    }
-    if c <= b'9' {
-        return c - b'0';
-    }
-    if c < b'A' {
-        return NO_DIGIT;
-    }
-    if c <= b'F' {
-        return c - b'A' + 10;
-    }
-    if c < b'a' {
-        return NO_DIGIT;
-    }
-    if c <= b'f' {
-        return c - b'a' + 10;
-    }
-    NO_DIGIT
+    char::from(c).to_digit(16).map(|digit| digit as u8)
 }
 
-// The bytes that a line stands for, at the front of a region; false where it isn't whole bytes.
-fn decode(line: &[u8], message: &mut [u8]) -> bool
-    requires { length line.now ≤ 2 * length message.old }
-{
+// The bytes that a line stands for, at the front of a region; none where it isn't whole bytes, or the region is too short.
+fn decode<'a>(line: &[u8], message: &'a mut [u8]) -> Option<&'a [u8]> {
     if line.len() % 2 != 0 {
-        return false;
+        return None;
     }
-    let mut i = 0;
-    while i < line.len() / 2 {
-        let high = value(line[2 * i]);
-        let low = value(line[2 * i + 1]);
-        if high == NO_DIGIT {
-            return false;
-        }
-        if low == NO_DIGIT {
-            return false;
-        }
-        message[i] = 16 * high + low;
-        i += 1;
+    for (byte, pair) in message.iter_mut().zip(line.chunks_exact(2)) {
+        *byte = 16 * value(pair[0])? + value(pair[1])?;
     }
-    true
+    message.get(..line.len() / 2)
 }
 
-fn is_comment(line: &[u8]) -> bool {
-    if line.len() == 0 {
-        return false;
-    }
-    line[0] == b'#'
-}
-
-fn answer_line(rt: &impl Print, line: &[u8], message: &mut [u8]) -> io::Result<()>
-    requires { length line.now ≤ 2 * length message.old }
-{
-    if is_comment(line) {
+fn answer_line(rt: &impl Print, line: &[u8], message: &mut [u8]) -> io::Result<()> {
+    if line.starts_with(b"#") {
         rt.write_all(line)?;
         return println!(rt; "");
     }
-    if decode(line, message) {
-        answer(rt, &message[..line.len() / 2])
-    } else {
-        println!(rt; "-")
+    match decode(line, message) {
+        Some(bytes) => answer(rt, bytes),
+        None => println!(rt; "-"),
     }
 }
 
-// Where the line that begins at a place ends.
-fn line_end(s: &[u8], at: usize) -> usize
-    requires { at ≤ length s.now }
-    ensures { (at ≤ result) × (result ≤ length s.now) }
-{
-    let mut i = at;
-    while i < s.len() {
-        if s[i] == b'\n' {
-            return i;
-        }
-        i += 1;
-    }
-    i
-}
-
-fn lines(rt: &impl Print, s: &[u8], message: &mut [u8]) -> io::Result<()>
-    requires { length s.now ≤ 2 * length message.old }
-{
-    let mut at = 0;
-    while at < s.len() {
-        let end = line_end(s, at);
-        answer_line(rt, &s[at..end], message)?;
-        at = end + 1;
+fn lines(rt: &impl Print, s: &[u8], message: &mut [u8]) -> io::Result<()> {
+    for line in s.split_inclusive(|&byte| byte == b'\n') {
+        answer_line(rt, line.strip_suffix(b"\n").unwrap_or(line), message)?;
     }
     Ok(())
 }

@@ -1,12 +1,11 @@
 use mathlib.Core.Path.{◌≡◌}
 use mathlib.Core.List.{◌++◌}
-use Prim.Native.Nat.{◌-◌, ◌%◌, ◌≤◌}
-use lib.ListN.{length, drop}
+use Rattle.std.specs.Slice.Iter.{chunks_exact_rest, chunks_exact_size}
 use Rattle.digest.specs.Sha256.{absorb, padding}
+use Rattle.digest.proofs.Padding.{behind_blocks}
 use Rattle.digest.proofs.message.finish.Given as goal
 
-abbrev pub invariant-loop-i : goal.invariant-loop-i
-invariant-loop-i l = (l.i ≤ length l.s) × ((l.i % 64 ≡ 0) × (absorb l.v (drop l.i l.s ++ padding l.n) ≡ absorb l.initial.v (l.s ++ padding l.n)))
-
-abbrev pub decreases-loop-i : goal.decreases-loop-i
-decreases-loop-i l = length l.s - l.i
+abbrev pub invariant-loop-block : goal.invariant-loop-block
+invariant-loop-block l =
+    (chunks_exact_size l.block-iterator ≡ 64)
+    × ((behind_blocks (chunks_exact_rest l.block-iterator) ≡ l.rest) × (absorb l.v (chunks_exact_rest l.block-iterator ++ padding l.n) ≡ absorb l.initial.v (l.s ++ padding l.n)))

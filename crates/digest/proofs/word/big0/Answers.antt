@@ -1,6 +1,6 @@
-use Rattle.digest.specs.Sha256.{Σ₀}
+use Rattle.digest.specs.Sha256.{Σ₀, ROTR}
 use Rattle.digest.proofs.word.big0.Goals as goal
 
 pub returns : goal.returns
-unfolding Σ₀
-returns c = rw (c.rotr.ensures, c.rotr-2.ensures, c.rotr-3.ensures)
+unfolding Σ₀ ROTR
+returns c = rw (c.rotate_right.ensures, c.rotate_right-2.ensures, c.rotate_right-3.ensures)

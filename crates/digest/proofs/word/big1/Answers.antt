@@ -1,6 +1,6 @@
-use Rattle.digest.specs.Sha256.{Σ₁}
+use Rattle.digest.specs.Sha256.{Σ₁, ROTR}
 use Rattle.digest.proofs.word.big1.Goals as goal
 
 pub returns : goal.returns
-unfolding Σ₁
-returns c = rw (c.rotr.ensures, c.rotr-2.ensures, c.rotr-3.ensures)
+unfolding Σ₁ ROTR
+returns c = rw (c.rotate_right.ensures, c.rotate_right-2.ensures, c.rotate_right-3.ensures)

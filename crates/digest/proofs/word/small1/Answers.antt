@@ -1,6 +1,6 @@
-use Rattle.digest.specs.Sha256.{σ₁}
+use Rattle.digest.specs.Sha256.{σ₁, ROTR}
 use Rattle.digest.proofs.word.small1.Goals as goal
 
 pub returns : goal.returns
-unfolding σ₁
-returns c = rw (c.rotr.ensures, c.rotr-2.ensures)
+unfolding σ₁ ROTR
+returns c = rw (c.rotate_right.ensures, c.rotate_right-2.ensures)

@@ -1,7 +1,0 @@
-use Rattle.digest.specs.Sha256.{be_bytes}
-use mathlib.Core.Path.{refl}
-use Rattle.digest.proofs.word.bytes8.Goals as goal
-
-pub returns : goal.returns
-unfolding be_bytes
-returns c = refl
