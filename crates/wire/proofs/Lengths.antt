@@ -6,12 +6,16 @@ use lib.ListN.{length, length-append}
 use Rattle.codec.proofs.Le.{length-le_bytes}
 use Rattle.wire.specs.declared.Timeout.{Timeout}
 use Rattle.wire.specs.Fields.{header_length, vote_length, block_certificate_length, timeout_length, timeouts_head, proposal_head, release_length}
-use Rattle.wire.specs.Encode.{header_bytes, vote_bytes, block_certificate_bytes, timeout_bytes, timeouts_bytes, proposal_bytes, release_bytes, timeout_head, timeouts_head_bytes, proposal_head_bytes}
+use Rattle.wire.specs.Encode.{header_bytes, named_bytes, vote_bytes, block_certificate_bytes, timeout_bytes, timeouts_bytes, proposal_bytes, release_bytes, timeout_head, timeouts_head_bytes, proposal_head_bytes}
 use Rattle.wire.specs.Fit.{IsName, TimeoutFits}
 
 pub length_header : (size kind sender : ℕ) → length (header_bytes size kind sender) ≡ header_length
 unfolding header_bytes
 length_header n k s = simp (length-append, length-le_bytes)
+
+pub length_named : (size kind sender view : ℕ) (name : List ℕ) → length name ≡ 32 → length (named_bytes size kind sender view name) ≡ 48
+unfolding named_bytes
+length_named n k s v x h = simp (length-append, length_header, length-le_bytes, h)
 
 pub length_timeouts : (s v : ℕ) (row : List ℕ) → length (timeouts_bytes s v row) ≡ timeouts_head + length row
 unfolding timeouts_bytes

@@ -1,9 +1,9 @@
 -- A record that is written field by field: what stands in the region after each store. Assumes nothing.
-use mathlib.Core.Path.{◌≡◌, sym, ap, ◌∙◌}
+use mathlib.Core.Path.{◌≡◌, refl, sym, ap, ◌∙◌}
 use mathlib.Core.List.{List, ◌++◌}
 use Prim.Native.Nat.{ℕ, ◌+◌}
-use lib.ListN.{length, length-append}
-use Rattle.codec.specs.Bytes.{patch}
+use lib.ListN.{length, replicate, length-append}
+use Rattle.codec.specs.Bytes.{patch, le_bytes}
 use Rattle.codec.proofs.Laws.{patch_append}
 
 -- t is s with the k bytes v at place at
@@ -24,3 +24,8 @@ next {s} {t} {u} {v} {at} {k} w m a e l = record {
 -- the fields, grouped otherwise
 pub whole : {s t v : List ℕ} {at k : ℕ} (w : List ℕ) → Written s at k t v → v ≡ w → t ≡ patch s at w
 whole {s} {t} {v} {at} w a e = a.is ∙ ap (patch s at) e
+
+-- the number 0 in six bytes is six zero bytes
+pub zeros : le_bytes 6 0 ≡ replicate 6 0
+unfolding le_bytes
+zeros = refl

@@ -41,7 +41,15 @@ timeout_of r =
       };
     }
 
--- kinds 7 and 8: what they say of a name
+-- kinds 7 and 8: what they say of a name, which stands at 16 in the one and at 8 in the other
+unfoldable pub child_at : List ℕ → ℕ → Child
+child_at r at =
+    record {
+      name = part r at name_length;
+      parent = part r (at + 32) name_length;
+      height = record { 0 = number_at r (at + 64) 8 };
+    }
+
 unfoldable pub proposed_of : List ℕ → Child
 proposed_of r = record { name = name_of r; parent = parent_of r; height = record { 0 = height_of r } }
 

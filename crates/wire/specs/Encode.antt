@@ -9,7 +9,11 @@ use Rattle.wire.specs.Content.{Certificate, by_block, by_timeouts, Content, vote
 unfoldable pub header_bytes : ℕ → ℕ → ℕ → List ℕ
 header_bytes size kind sender = le_bytes 4 size ++ le_bytes 2 kind ++ le_bytes 2 sender
 
--- kinds 1 and 2: view u64, name
+-- what kinds 1, 2, 3, 7 and 9 begin with: view u64, name
+unfoldable pub named_bytes : ℕ → ℕ → ℕ → ℕ → List ℕ → List ℕ
+named_bytes size kind sender view name = header_bytes size kind sender ++ le_bytes 8 view ++ name
+
+-- kinds 1 and 2: view, name
 unfoldable pub vote_bytes : ℕ → ℕ → ℕ → List ℕ → List ℕ
 vote_bytes kind sender view name = header_bytes vote_length kind sender ++ le_bytes 8 view ++ name
 

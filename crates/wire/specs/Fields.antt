@@ -1,5 +1,7 @@
 -- Where the fields of a record stand (01: Records, the table). Assumes nothing.
-use Rattle.std.specs.Prelude.{ℕ, zero, suc, List, [], ◌∷◌, take, drop}
+use Rattle.std.specs.Prelude.{ℕ, zero, suc, ◌/◌, List, [], ◌∷◌, take, drop, length}
+use Rattle.std.specs.Slice.Iter.{chunks_exact_rest}
+use Rattle.std.specs.declared.slice.ChunksExact.{ChunksExact}
 use Rattle.codec.specs.Bytes.{part, le_nat}
 use Rattle.codec.specs.Names.{name_length}
 
@@ -118,3 +120,7 @@ cut (suc k) s = take timeout_length s ∷ cut k (drop timeout_length s)
 -- "then count timeouts": the timeouts inside a timeout certificate
 abbrev pub slots : List ℕ → List (List ℕ)
 slots r = cut (count_of r) (drop timeouts_head r)
+
+-- what an iterator over a row of timeouts has left
+abbrev pub slots_left : ChunksExact ℕ → List (List ℕ)
+slots_left s = cut (length (chunks_exact_rest s) / timeout_length) (chunks_exact_rest s)

@@ -1,3 +1,4 @@
+pub mod Kinds
 pub mod Fields
 pub mod Content
 pub mod Encode

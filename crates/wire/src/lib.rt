@@ -8,7 +8,57 @@ pub mod length;
 pub mod read;
 pub mod write;
 
+ghost use Rattle.std.specs.Prelude.{◌≡◌};
+ghost use Rattle.wire.specs.Kinds.{number, Decodes};
+
 use settings::{Height, View};
+
+// The kinds of records, by their numbers in a header. A weak certificate is no record of its own: a timeout carries it.
+#[derive(Clone, Copy, PartialEq, Eq)]
+pub enum Kind {
+    Vote = 1,
+    Commit = 2,
+    BlockCertificate = 3,
+    WeakCertificate = 4,
+    Timeout = 5,
+    TimeoutCertificate = 6,
+    Proposal = 7,
+    Block = 8,
+    Release = 9,
+}
+
+// A number that no kind has.
+#[derive(Clone, Copy, PartialEq, Eq)]
+pub struct UnknownKind(pub u16);
+
+impl TryFrom<u16> for Kind {
+    type Error = UnknownKind;
+
+    ghost try_from_gives = { Decodes };
+
+    fn try_from(number: u16) -> Result<Self, UnknownKind> {
+        match number {
+            1 => Ok(Kind::Vote),
+            2 => Ok(Kind::Commit),
+            3 => Ok(Kind::BlockCertificate),
+            4 => Ok(Kind::WeakCertificate),
+            5 => Ok(Kind::Timeout),
+            6 => Ok(Kind::TimeoutCertificate),
+            7 => Ok(Kind::Proposal),
+            8 => Ok(Kind::Block),
+            9 => Ok(Kind::Release),
+            _ => Err(UnknownKind(number)),
+        }
+    }
+}
+
+impl From<Kind> for u16 {
+    ghost from_gives = { λ k n. n ≡ number k };
+
+    fn from(kind: Kind) -> u16 {
+        kind as u16
+    }
+}
 
 // A view and a name: a vote, a commit, or a timeout's high vote.
 #[repr(C)]
@@ -18,7 +68,7 @@ pub struct Vote {
     pub name: [u8; 32],
 }
 
-// The certificate inside a timeout: kind 3, or 4 for weak.
+// The certificate inside a timeout. Its kind is the number that stands there; where the timeout has its shape, that of a block or of a weak certificate.
 #[derive(Clone, Copy)]
 pub struct Carried {
     pub kind: u16,

@@ -1,42 +1,64 @@
 // Writers: each puts one record into a region, at a place.
 ghost use Rattle.std.specs.Prelude.{◌≡◌, ◌+◌, ◌-◌, ◌^◌, ◌≤◌, ◌<◌, length};
 ghost use Rattle.codec.specs.Bytes.{patch};
-ghost use Rattle.wire.specs.Encode.{header_bytes, vote_bytes, block_certificate_bytes, timeout_head, timeout_bytes, timeouts_head_bytes, proposal_head_bytes, proposal_bytes, release_bytes};
+ghost use Rattle.wire.specs.Kinds.{number};
+ghost use Rattle.wire.specs.Encode.{header_bytes, named_bytes, vote_bytes, block_certificate_bytes, timeout_head, timeout_bytes, timeouts_head_bytes, proposal_head_bytes, proposal_bytes, release_bytes};
 ghost use Rattle.wire.specs.Fields.{header_length, vote_length, block_certificate_length, timeout_length, timeouts_head, proposal_head, release_length};
 
-use crate::{Child, Release, Timeout, Vote, length};
+use crate::{Child, Kind, Release, Timeout, Vote, length};
 use codec::num::{put_le, put_u16, put_u32, put_u64};
-use codec::{put, put_name};
+use codec::{clear, put, put_name};
 use settings::View;
 
-fn put_header(out: &mut [u8], at: usize, size: u32, kind: u16, sender: u16)
-    requires { at + header_length ≤ length out.old }
-    ensures { out.new ≡ patch out.old at (header_bytes size kind sender) }
+fn put_header(out: &mut [u8], at: usize, size: usize, kind: Kind, sender: u16)
+    requires { (at + header_length ≤ length out.old) × (size < 2 ^ 32) }
+    ensures { out.new ≡ patch out.old at (header_bytes size (number kind) sender) }
 {
-    put_u32(out, at, size);
-    put_u16(out, at + 4, kind);
+    put_u32(out, at, size as u32);
+    put_u16(out, at + 4, kind.into());
     put_u16(out, at + 6, sender);
 }
 
-// A vote, kind 1, or a commit, kind 2.
-pub fn put_vote(out: &mut [u8], at: usize, kind: u16, sender: u16, vote: Vote)
-    requires { at + vote_length ≤ length out.old }
-    ensures { out.new ≡ patch out.old at (vote_bytes kind sender vote.view.0 vote.name) }
+// What several kinds begin with: header, view and name.
+fn put_named(
+    out: &mut [u8],
+    at: usize,
+    size: usize,
+    kind: Kind,
+    sender: u16,
+    view: View,
+    name: [u8; 32],
+)
+    requires { (at + vote_length ≤ length out.old) × (size < 2 ^ 32) }
+    ensures { out.new ≡ patch out.old at (named_bytes size (number kind) sender view.0 name) }
 {
-    let name = vote.name;
-    put_header(out, at, length::VOTE as u32, kind, sender);
-    put_u64(out, at + 8, vote.view.0);
+    put_header(out, at, size, kind, sender);
+    put_u64(out, at + 8, view.0);
     put_name(out, at + 16, name);
+}
+
+// A vote or a commit.
+#[tactic(auto, unfolding(crate::specs::Encode::named_bytes, crate::specs::Encode::vote_bytes))]
+pub fn put_vote(out: &mut [u8], at: usize, kind: Kind, sender: u16, vote: Vote)
+    requires { at + vote_length ≤ length out.old }
+    ensures { out.new ≡ patch out.old at (vote_bytes (number kind) sender vote.view.0 vote.name) }
+{
+    put_named(out, at, length::VOTE, kind, sender, vote.view, vote.name);
 }
 
 pub fn put_block_certificate(out: &mut [u8], at: usize, sender: u16, vote: Vote, signers: u64)
     requires { at + block_certificate_length ≤ length out.old }
     ensures { out.new ≡ patch out.old at (block_certificate_bytes sender vote.view.0 vote.name signers) }
 {
-    let name = vote.name;
-    put_header(out, at, length::BLOCK_CERTIFICATE as u32, 3, sender);
-    put_u64(out, at + 8, vote.view.0);
-    put_name(out, at + 16, name);
+    put_named(
+        out,
+        at,
+        length::BLOCK_CERTIFICATE,
+        Kind::BlockCertificate,
+        sender,
+        vote.view,
+        vote.name,
+    );
     put_u64(out, at + 48, signers);
 }
 
@@ -44,10 +66,15 @@ pub fn put_release(out: &mut [u8], at: usize, sender: u16, release: Release)
     requires { at + release_length ≤ length out.old }
     ensures { out.new ≡ patch out.old at (release_bytes sender release.view.0 release.name release.height.0) }
 {
-    let name = release.name;
-    put_header(out, at, length::RELEASE as u32, 9, sender);
-    put_u64(out, at + 8, release.view.0);
-    put_name(out, at + 16, name);
+    put_named(
+        out,
+        at,
+        length::RELEASE,
+        Kind::Release,
+        sender,
+        release.view,
+        release.name,
+    );
     put_u64(out, at + 48, release.height.0);
 }
 
@@ -56,26 +83,22 @@ fn put_timeout_head(out: &mut [u8], at: usize, t: Timeout)
     requires { at + 56 ≤ length out.old }
     ensures { out.new ≡ patch out.old at (timeout_head t) }
 {
-    let high = t.high;
-    let name = high.name;
-    put_header(out, at, length::TIMEOUT as u32, 5, t.sender);
+    put_header(out, at, length::TIMEOUT, Kind::Timeout, t.sender);
     put_u64(out, at + 8, t.view.0);
-    put_u64(out, at + 16, high.view.0);
-    put_name(out, at + 24, name);
+    put_u64(out, at + 16, t.high.view.0);
+    put_name(out, at + 24, t.high.name);
 }
 
 pub fn put_timeout(out: &mut [u8], at: usize, t: Timeout)
     requires { at + timeout_length ≤ length out.old }
     ensures { out.new ≡ patch out.old at (timeout_bytes t) }
 {
-    let carried = t.carried;
-    let name = carried.name;
     put_timeout_head(out, at, t);
-    put_u16(out, at + 56, carried.kind);
-    put_le(out, at + 58, 6, 0);
-    put_u64(out, at + 64, carried.view.0);
-    put_name(out, at + 72, name);
-    put_u64(out, at + 104, carried.signers);
+    put_u16(out, at + 56, t.carried.kind);
+    clear(out, at + 58, 6);
+    put_u64(out, at + 64, t.carried.view.0);
+    put_name(out, at + 72, t.carried.name);
+    put_u64(out, at + 104, t.carried.signers);
 }
 
 // A timeout certificate before its timeouts, of which there are size bytes.
@@ -83,10 +106,16 @@ pub fn put_timeouts_head(out: &mut [u8], at: usize, sender: u16, view: View, siz
     requires { (at + timeouts_head ≤ length out.old) × (size < 2 ^ 32 - timeouts_head) }
     ensures { out.new ≡ patch out.old at (timeouts_head_bytes sender view.0 size) }
 {
-    put_header(out, at, (length::TIMEOUTS_HEAD + size) as u32, 6, sender);
+    put_header(
+        out,
+        at,
+        length::TIMEOUTS_HEAD + size,
+        Kind::TimeoutCertificate,
+        sender,
+    );
     put_u64(out, at + 8, view.0);
     put_le(out, at + 16, 2, (size / length::TIMEOUT) as u64);
-    put_le(out, at + 18, 6, 0);
+    clear(out, at + 18, 6);
 }
 
 // A proposal before its progress certificate, which has size bytes.
@@ -101,12 +130,16 @@ pub fn put_proposal_head(
     requires { (at + proposal_head ≤ length out.old) × (size < 2 ^ 32 - proposal_head) }
     ensures { out.new ≡ patch out.old at (proposal_head_bytes sender view.0 child.name child.parent child.height.0 size) }
 {
-    let name = child.name;
-    let parent = child.parent;
-    put_header(out, at, (length::PROPOSAL_HEAD + size) as u32, 7, sender);
-    put_u64(out, at + 8, view.0);
-    put_name(out, at + 16, name);
-    put_name(out, at + 48, parent);
+    put_named(
+        out,
+        at,
+        length::PROPOSAL_HEAD + size,
+        Kind::Proposal,
+        sender,
+        view,
+        child.name,
+    );
+    put_name(out, at + 48, child.parent);
     put_u64(out, at + 80, child.height.0);
 }
 

@@ -1,21 +1,20 @@
 use mathlib.Core.List.{append_assoc}
 use Rattle.codec.specs.Bytes.{le_bytes}
 use Rattle.codec.proofs.Le.{length-le_bytes}
-use Rattle.wire.specs.Encode.{header_bytes, block_certificate_bytes}
+use lib.ListN.{length}
+use mathlib.Core.Path.{◌≡◌}
+use Rattle.wire.specs.Encode.{named_bytes, block_certificate_bytes}
 use Rattle.wire.proofs.Writes.{first, next, whole}
-use Rattle.wire.proofs.Lengths.{length_header}
+use Rattle.wire.proofs.Lengths.{length_named}
 use borrow.Author.Rules.{rules}
 use Rattle.wire.proofs.write.put_block_certificate.Goals as goal
 
 pub returns : goal.returns
-unfolding block_certificate_bytes
+unfolding named_bytes block_certificate_bytes
 returns c = let a = c.args in
+    let size : length a.vote.name ≡ 32 = search rules in
     whole (block_certificate_bytes a.sender a.vote.view.0 a.vote.name a.signers)
     (next (le_bytes 8 a.signers) 8
-    (next a.vote.name 32
-    (next (le_bytes 8 a.vote.view.0) 8
-    (first a.out.now a.at (header_bytes 56 3 a.sender) c.put_header.ensures (length_header 56 3 a.sender))
-    c.put_u64.ensures (length-le_bytes 8 a.vote.view.0))
-    c.put_name.ensures (search rules))
-    c.put_u64-2.ensures (length-le_bytes 8 a.signers))
+    (first a.out.now a.at (named_bytes 56 3 a.sender a.vote.view.0 a.vote.name) c.put_named.ensures (length_named 56 3 a.sender a.vote.view.0 a.vote.name size))
+    c.put_u64.ensures (length-le_bytes 8 a.signers))
     (simp append_assoc)

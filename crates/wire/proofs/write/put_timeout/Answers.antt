@@ -4,7 +4,7 @@ use mathlib.Core.List.{append_assoc}
 use Rattle.codec.specs.Bytes.{le_bytes}
 use Rattle.codec.proofs.Le.{length-le_bytes}
 use Rattle.wire.specs.Encode.{timeout_head, timeout_bytes}
-use Rattle.wire.proofs.Writes.{first, next, whole}
+use Rattle.wire.proofs.Writes.{first, next, whole, zeros}
 use Rattle.wire.proofs.Lengths.{length-timeout_head}
 use borrow.Author.Rules.{rules}
 use Rattle.wire.proofs.write.put_timeout.Goals as goal
@@ -22,7 +22,7 @@ returns c = let size : length c.args.t.high.name ≡ 32 = search rules in
     (next (le_bytes 2 a.t.carried.kind) 2
     (first a.out.now a.at (timeout_head a.t) c.put_timeout_head.ensures (length-timeout_head a.t size))
     c.put_u16.ensures (length-le_bytes 2 a.t.carried.kind))
-    c.put_le.ensures (length-le_bytes 6 (0)))
+    (rw zeros c.clear.ensures) (length-le_bytes 6 (0)))
     c.put_u64.ensures (length-le_bytes 8 a.t.carried.view.0))
     c.put_name.ensures size-2)
     c.put_u64-2.ensures (length-le_bytes 8 a.t.carried.signers))

@@ -2,7 +2,7 @@ use mathlib.Core.List.{append_assoc}
 use Rattle.codec.specs.Bytes.{le_bytes}
 use Rattle.codec.proofs.Le.{length-le_bytes}
 use Rattle.wire.specs.Encode.{header_bytes, timeouts_head_bytes}
-use Rattle.wire.proofs.Writes.{first, next, whole}
+use Rattle.wire.proofs.Writes.{first, next, whole, zeros}
 use Rattle.wire.proofs.Lengths.{length_header}
 use Prim.Native.Nat.{◌+◌, ◌/◌}
 use Rattle.wire.proofs.write.put_timeouts_head.Goals as goal
@@ -17,5 +17,5 @@ returns c = let a = c.args in
     (first a.out.now a.at (header_bytes (24 + a.size) 6 a.sender) c.put_header.ensures (length_header (24 + a.size) 6 a.sender))
     c.put_u64.ensures (length-le_bytes 8 a.view.0))
     c.put_le.ensures (length-le_bytes 2 (a.size / 112)))
-    c.put_le-2.ensures (length-le_bytes 6 (0)))
+    (rw zeros c.clear.ensures) (length-le_bytes 6 (0)))
     (simp append_assoc)
