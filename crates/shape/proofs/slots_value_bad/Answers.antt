@@ -1,19 +1,18 @@
 use mathlib.Core.Path.{sym, ◌∙◌}
-use native.Mathlib.Nat.{sub-zero}
 use native.Mathlib.Numerals.{add-one}
+use Rattle.wire.proofs.Turns.{slot_turn}
 use Rattle.shape.proofs.Slots.{value_here, value_later, value_none}
-use borrow.Author.Rules.{rules}
-use native.Mathlib.Omega.{arith}
 use Rattle.shape.proofs.slots_value_bad.Goals as goal
 
-pub loop-i-init : goal.loop-i-init
-loop-i-init c = (search rules, rw sub-zero)
-
 pub returns-then-slot_value_bad : goal.returns-then-slot_value_bad
-returns-then-slot_value_bad c = sym (c.loop-i.invariant.1 ∙ value_here _ _ _ _ _ _ c.loop-i-test.true (sym c.slot_value_bad.ensures ∙ c.if-slot_value_bad.true))
+returns-then-slot_value_bad c = let l = c.loop-slot in
+    sym (l.invariant.1 ∙ value_here _ _ _ l.slot-iterator c.next.new.self l.invariant.0 c.in-Some.slot c.in-Some.ensures.steps (sym c.slot_value_bad.ensures ∙ c.if-slot_value_bad.true))
 
-pub loop-i-preserved : goal.loop-i-preserved
-loop-i-preserved c = (omega arith, rw (add-one, c.u16_at.ensures) (c.loop-i.invariant.1 ∙ value_later _ _ _ _ _ _ c.loop-i-test.true (sym c.slot_value_bad.ensures ∙ c.if-slot_value_bad.false)))
+pub loop-slot-preserved : goal.loop-slot-preserved
+loop-slot-preserved c = let l = c.loop-slot in (
+  (slot_turn l.slot-iterator c.next.new.self l.invariant.0 c.in-Some.slot c.in-Some.ensures.steps).0,
+  rw (add-one, c.u16_at.ensures) (l.invariant.1 ∙ value_later _ _ _ l.slot-iterator c.next.new.self l.invariant.0 c.in-Some.slot c.in-Some.ensures.steps (sym c.slot_value_bad.ensures ∙ c.if-slot_value_bad.false)),
+)
 
 pub returns : goal.returns
-returns c = sym (c.loop-i.invariant.1 ∙ value_none _ _ _ _ _ _ c.loop-i-test.false)
+returns c = let l = c.loop-slot in sym (l.invariant.1 ∙ value_none _ _ _ l.slot-iterator c.next.new.self l.invariant.0 c.in-None.ensures.steps)

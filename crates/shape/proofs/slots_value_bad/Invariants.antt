@@ -1,13 +1,10 @@
-use Rattle.wire.proofs.Turns.{slots_from}
 use mathlib.Core.Path.{◌≡◌}
-use Prim.Native.Nat.{◌-◌, ◌≤◌}
 use lib.ListN.{drop}
-use Rattle.wire.specs.Fields.{cut}
+use Rattle.std.specs.Slice.Iter.{chunks_exact_size}
+use Rattle.wire.specs.Fields.{timeout_length, cut, slots_left}
 use Rattle.wire.specs.Shape.{slots_value_bad}
 use Rattle.shape.proofs.slots_value_bad.Given as goal
 
-abbrev pub invariant-loop-i : goal.invariant-loop-i
-invariant-loop-i l = (l.i ≤ l.count) × (slots_value_bad l.n l.view.0 0 (cut l.count (drop 24 l.rec)) ≡ slots_value_bad l.n l.view.0 l.low (slots_from l.rec l.count l.i))
-
-abbrev pub decreases-loop-i : goal.decreases-loop-i
-decreases-loop-i l = l.count - l.i
+abbrev pub invariant-loop-slot : goal.invariant-loop-slot
+invariant-loop-slot l = (chunks_exact_size l.slot-iterator ≡ timeout_length)
+    × (slots_value_bad l.n l.view.0 0 (cut l.count (drop 24 l.rec)) ≡ slots_value_bad l.n l.view.0 l.low (slots_left l.slot-iterator))

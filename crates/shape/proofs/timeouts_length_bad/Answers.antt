@@ -1,15 +1,10 @@
-use borrow.Author.Tests.{lt-ltb, le-ltb, eq-eqb, ne_eqb}
-use Rattle.wire.specs.Shape.{timeouts_length}
+use borrow.Author.Rules.{rules}
+use borrow.Author.Tests.{le-ltb, eq-eqb}
+use Rattle.wire.specs.Shape.{frame_bad, timeouts_length}
+use Rattle.shape.proofs.Slots.{any_slot}
 use Rattle.shape.proofs.timeouts_length_bad.Goals as goal
-
-pub returns-then-rec-lt-TIMEOUTS_HEAD : goal.returns-then-rec-lt-TIMEOUTS_HEAD
-unfolding timeouts_length
-returns-then-rec-lt-TIMEOUTS_HEAD c = rw (lt-ltb _ _ c.if-rec-lt-TIMEOUTS_HEAD.true)
-
-pub returns-then-rec-count : goal.returns-then-rec-count
-unfolding timeouts_length
-returns-then-rec-count c = rw (le-ltb _ _ c.if-rec-lt-TIMEOUTS_HEAD.false, ← c.u16_at-count.ensures, ne_eqb _ _ c.if-rec-count.true)
 
 pub returns : goal.returns
 unfolding timeouts_length
-returns c = rw (le-ltb _ _ c.if-rec-lt-TIMEOUTS_HEAD.false, ← c.u16_at-count.ensures, eq-eqb _ _ c.if-rec-count.false, c.slots_frame_bad.ensures)
+returns c = rw (le-ltb _ _ c.if-rec-lt-TIMEOUTS_HEAD.false, ← c.u16_at-count.ensures, eq-eqb _ _ c.if-rec-count.false, ← c.timeouts.ensures.slots)
+    (any_slot frame_bad c.timeouts.result c.any.new.self (λ x b q h. search rules) c.any.ensures.ran c.timeouts.ensures.size)
