@@ -15,7 +15,7 @@ use Rattle.wire.specs.declared.Timeout.{Timeout}
 use Rattle.wire.specs.Shape.{any}
 use Rattle.wire.specs.Fit.{All, TimeoutsProper}
 use Rattle.wire.proofs.Slots.{all_impl}
-use Rattle.certificate.specs.declared.safe.Backing.{Backing}
+use Rattle.certificate.specs.declared.Tally.{Tally}
 use Rattle.certificate.specs.Good.{signer_count}
 use Rattle.certificate.specs.Safe.{each, signs, joins, gives, backed_by, no_backing, backing}
 use Rattle.certificate.specs.Order.{only, Ascending}
@@ -35,13 +35,13 @@ any_self f (a ∷ l) = (λ e. rw e, all_impl _ _ l (λ b h e. rw (h e) (or-true 
 
 module _ (n v : ℕ) (x : List ℕ) where
   -- a timeout more, by whether it gives that high vote
-  abbrev more : Bool → Timeout → Backing → Backing
+  abbrev more : Bool → Timeout → Tally → Tally
   more p t b = cond p (record { count = b.count + 1; signers = joins n t.sender b.signers }) b
 
-  abbrev all_of : Backing → List Timeout → Backing
+  abbrev all_of : Tally → List Timeout → Tally
   all_of b ts = each (backed_by n v x) b ts
 
-  count_from : (b : Backing) (ts : List Timeout) → (all_of b ts).count ≡ b.count + length (only (gives v x) ts)
+  count_from : (b : Tally) (ts : List Timeout) → (all_of b ts).count ≡ b.count + length (only (gives v x) ts)
   unfolding each backed_by only
   count_from b [] = omega arith
   count_from b (t ∷ ts) = go (gives v x t) (λ p. count_from (more p t b) ts)
@@ -58,7 +58,7 @@ module _ (n v : ℕ) (x : List ℕ) where
   abbrev pub sends : ℕ → Timeout → Bool
   sends i t = gives v x t && eqb t.sender i
 
-  signs_from : (i : ℕ) (b : Backing) (ts : List Timeout) → signs (all_of b ts).signers i ≡ (ltb i n && any (sends i) ts || signs b.signers i)
+  signs_from : (i : ℕ) (b : Tally) (ts : List Timeout) → signs (all_of b ts).signers i ≡ (ltb i n && any (sends i) ts || signs b.signers i)
   unfolding each backed_by any
   signs_from i b [] = rw (and-false (ltb i n))
   signs_from i b (t ∷ ts) = go (gives v x t) (λ p. signs_from i (more p t b) ts)
@@ -77,7 +77,7 @@ module _ (n v : ℕ) (x : List ℕ) where
   pub backing-signs : (i : ℕ) (ts : List Timeout) → signs (backing n v x ts).signers i ≡ (ltb i n && any (sends i) ts)
   backing-signs i ts = signs_from i no_backing ts ∙ rw (signs_beyond 0 i (pow_pos i)) (or-false (ltb i n && any (sends i) ts))
 
-  lt_from : (b : Backing) (ts : List Timeout) → b.signers < 2 ^ n → (all_of b ts).signers < 2 ^ n
+  lt_from : (b : Tally) (ts : List Timeout) → b.signers < 2 ^ n → (all_of b ts).signers < 2 ^ n
   unfolding each backed_by
   lt_from b [] h = h
   lt_from b (t ∷ ts) h = lt_from (more (gives v x t) t b) ts (go (gives v x t))
@@ -90,7 +90,7 @@ module _ (n v : ℕ) (x : List ℕ) where
   backing_lt ts = lt_from no_backing ts (pow_pos n)
 
   -- senders that ascend are counted once each
-  signers_from : n ≤ 64 → (low : ℕ) (b : Backing) (ts : List Timeout) → b.signers < 2 ^ low → signer_count b.signers ≡ b.count → Ascending n low ts
+  signers_from : n ≤ 64 → (low : ℕ) (b : Tally) (ts : List Timeout) → b.signers < 2 ^ low → signer_count b.signers ≡ b.count → Ascending n low ts
       → signer_count (all_of b ts).signers ≡ (all_of b ts).count
   unfolding each backed_by Ascending
   signers_from w low b [] l e p = e

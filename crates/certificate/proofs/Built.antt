@@ -1,24 +1,21 @@
 -- The certificate that a timeout's high vote builds, and the safe certificate, by what the code finds. Assumes nothing.
-use mathlib.Core.Path.{◌≡◌, refl, sym, ap, ◌∙◌}
+use mathlib.Core.Path.{◌≡◌, refl}
 use mathlib.Core.Bool.{Bool, true, false, cond, ◌&&◌}
-use mathlib.Core.List.{List, ◌∷◌, map}
+use mathlib.Core.List.{List, ◌∷◌}
 use Prim.Native.Nat.{ℕ, ◌≤◌, ◌<◌}
-use native.Mathlib.Nat.{sub-zero}
 use native.Mathlib.Omega.{arith}
 use borrow.Author.Tests.{lt-ltb, le-leb, lt-leb}
 use lib.Dec.{ltb, leb}
-use lib.ListN.{drop}
 use Rattle.settings.specs.declared.Settings.{Settings}
 use Rattle.settings.specs.Quorum.{replicas, weak_quorum}
 use Rattle.wire.specs.declared.Vote.{Vote}
 use Rattle.wire.specs.declared.Timeout.{Timeout}
-use Rattle.wire.specs.Fields.{number_at, high_name_of, cut}
+use Rattle.wire.specs.Fields.{number_at, high_name_of}
 use Rattle.wire.specs.Content.{vote_at, timeout_of}
 use Rattle.certificate.specs.declared.Certificate.{Certificate}
-use Rattle.certificate.specs.declared.safe.Backing.{Backing}
+use Rattle.certificate.specs.declared.Tally.{Tally}
 use Rattle.certificate.specs.Rank.{weak_certificate, carried_certificate, outranks}
 use Rattle.certificate.specs.Safe.{better, backing, built_by, carried_by, each, safe_of_timeouts}
-use Rattle.wire.proofs.Turns.{slot, timeouts_from, timeouts_turn}
 
 either : (t : Bool) (k : Certificate) → cond t k k ≡ k
 either true k = refl
@@ -29,7 +26,7 @@ module _ (s : Settings) (l : List Timeout) (r : List ℕ) (k : Certificate) (hig
   unfolding built_by timeout_of vote_at
   built_none h = let w : number_at r 16 8 ≡ 0 = rw e at h in rw w
 
-  module _ (b : Backing) (p : b ≡ backing (replicas s) high.view.0 high.name l) (h : high.view.0 ≡ 0 → ⊥) where
+  module _ (b : Tally) (p : b ≡ backing (replicas s) high.view.0 high.name l) (h : high.view.0 ≡ 0 → ⊥) where
     pub built_few : b.count < weak_quorum s → k ≡ built_by s l (timeout_of r) k
     unfolding built_by timeout_of vote_at
     built_few q =
@@ -55,10 +52,6 @@ module _ (s : Settings) (l : List Timeout) (r : List ℕ) (k : Certificate) (hig
       rw (f, either (ltb 0 v && leb (weak_quorum s) b.count) k)
 
 -- the safe certificate, in the code's order: the first carried one, the others carried, those built
-pub safe_made : (s : Settings) (r : List ℕ) (k : ℕ) → 0 < k
-    → each (built_by s (map timeout_of (cut k (drop 24 r)))) (each carried_by (carried_certificate (timeout_of (slot r 0)).carried) (timeouts_from r k 1)) (map timeout_of (cut k (drop 24 r)))
-    ≡ safe_of_timeouts s (map timeout_of (cut k (drop 24 r)))
+pub safe_made : (s : Settings) (t : Timeout) (l : List Timeout) {all : List Timeout} → all ≡ t ∷ l → each (built_by s all) (each carried_by (carried_certificate t.carried) l) all ≡ safe_of_timeouts s all
 unfolding safe_of_timeouts
-safe_made s r k h =
-    let e : map timeout_of (cut k (drop 24 r)) ≡ timeout_of (slot r 0) ∷ timeouts_from r k 1 = ap (λ (j : ℕ). map timeout_of (cut j (drop 24 r))) (sym (sub-zero k)) ∙ timeouts_turn r k 0 h in
-    rw e
+safe_made s t l e = rw e

@@ -5,7 +5,7 @@ use Rattle.settings.specs.Quorum.{replicas, weak_quorum}
 use Rattle.wire.specs.declared.Timeout.{Timeout}
 use Rattle.certificate.specs.declared.Certificate.{Certificate}
 use Rattle.certificate.specs.declared.Locks.{Locks}
-use Rattle.certificate.specs.declared.safe.Backing.{Backing}
+use Rattle.certificate.specs.declared.Tally.{Tally}
 use Rattle.certificate.specs.Rank.{outranks, weak_certificate, carried_certificate}
 use Rattle.certificate.specs.Safe.{backing}
 
@@ -38,7 +38,7 @@ carried_in t = carried_certificate t.carried
 
 module _ (s : Settings) (l : List Timeout) (t : Timeout) where
   -- who gives the same high vote
-  abbrev pub backers : Backing
+  abbrev pub backers : Tally
   backers = backing (replicas s) t.high.view.0 t.high.name l
 
   -- there is one, and enough give it

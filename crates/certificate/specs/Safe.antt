@@ -6,7 +6,7 @@ use Rattle.codec.specs.Names.{same_bytes}
 use Rattle.wire.specs.declared.Timeout.{Timeout}
 use Rattle.wire.specs.Content.{by_block, by_timeouts}
 use Rattle.certificate.specs.declared.Certificate.{Certificate}
-use Rattle.certificate.specs.declared.safe.Backing.{Backing}
+use Rattle.certificate.specs.declared.Tally.{Tally}
 use Rattle.certificate.specs.Rank.{block_certificate, weak_certificate, genesis_certificate, outranks, carried_certificate}
 
 -- one timeout after another
@@ -32,13 +32,13 @@ unfoldable pub gives : ℕ → List ℕ → Timeout → Bool
 gives v x t = eqb t.high.view.0 v && same_bytes t.high.name x
 
 -- how many timeouts give that high vote, and who sent them: one timeout more, and a list of them
-unfoldable pub backed_by : ℕ → ℕ → List ℕ → Timeout → Backing → Backing
+unfoldable pub backed_by : ℕ → ℕ → List ℕ → Timeout → Tally → Tally
 backed_by n v x t b = cond (gives v x t) (record { count = b.count + 1; signers = joins n t.sender b.signers }) b
 
-abbrev pub no_backing : Backing
+abbrev pub no_backing : Tally
 no_backing = record { count = 0; signers = 0 }
 
-abbrev pub backing : ℕ → ℕ → List ℕ → List Timeout → Backing
+abbrev pub backing : ℕ → ℕ → List ℕ → List Timeout → Tally
 backing n v x l = each (backed_by n v x) no_backing l
 
 -- "a weak certificate for each view and name that at least f+p+1 of its timeouts give as high vote (signers: those senders)":

@@ -6,42 +6,29 @@ ghost use Rattle.wire.specs.Content.{timeout_of, progress_means, Within};
 ghost use Rattle.certificate.specs.Rank.{block_certificate};
 ghost use Rattle.certificate.specs.Good.{timeout_good, all, progress_good};
 
-use crate::{Certificate, carried};
+use crate::Certificate;
 use codec::name_at;
 use codec::num::u64_at;
 use settings::Settings;
-use wire::read::timeout;
-use wire::{BlockCertificate, Progress, TimeoutCertificate, length};
+use wire::read::{timeout, timeouts};
+use wire::{BlockCertificate, Progress, TimeoutCertificate};
 
+#[tactic(auto, unfolding(crate::specs::Good::timeout_good))]
 pub fn timeout_good(rec: &[u8], settings: Settings) -> bool
     requires { timeout_length ≤ length rec.now }
     ensures { result ≡ timeout_good settings (timeout_of rec.now) }
 {
     let t = timeout(rec);
-    let inner = t.carried;
-    let high = t.high;
-    let certificate = carried(inner);
-    if certificate.is_good(settings) {
-        if inner.view.0 <= t.view.0 {
-            return high.view.0 <= t.view.0;
-        }
-    }
-    false
+    Certificate::from(t.carried).is_good(settings)
+        && t.carried.view <= t.view
+        && t.high.view <= t.view
 }
 
 fn all_good(rec: &[u8], count: usize, settings: Settings) -> bool
     requires { timeouts_head + timeout_length * count ≤ length rec.now }
     ensures { result ≡ all (timeout_good settings) (map timeout_of (cut count (drop timeouts_head rec.now))) }
 {
-    let mut i = 0;
-    while i < count {
-        let at = length::TIMEOUTS_HEAD + length::TIMEOUT * i;
-        if !timeout_good(&rec[at..at + length::TIMEOUT], settings) {
-            return false;
-        }
-        i += 1;
-    }
-    true
+    timeouts(rec, count).all(|slot| timeout_good(slot, settings))
 }
 
 // The block certificate that stands in a record: its numbers, and the name beside them.
@@ -49,13 +36,10 @@ pub fn block_certificate(rec: &[u8], b: BlockCertificate) -> Certificate
     requires { Within rec.now (Block b) }
     ensures { result ≡ block_certificate b.view.0 (name_of (drop b.place rec.now)) b.signers }
 {
-    let at = b.place;
-    let view = b.view;
-    let name = name_at(rec, at + 16);
     Certificate {
         block: true,
-        view,
-        name,
+        view: b.view,
+        name: name_at(rec, b.place + 16),
         signers: b.signers,
     }
 }
@@ -65,15 +49,9 @@ pub fn timeouts_good(rec: &[u8], t: TimeoutCertificate, settings: Settings) -> b
     requires { Within rec.now (Timeouts t) }
     ensures { result ≡ progress_good settings (progress_means rec.now (Timeouts t)) }
 {
-    let at = t.place;
-    let count = t.count;
-    if u64_at(rec, at + 8) == 0 {
-        return false;
-    }
-    if (count as u64) < settings.timeout_quorum() {
-        return false;
-    }
-    all_good(&rec[at..], count, settings)
+    u64_at(rec, t.place + 8) != 0
+        && settings.timeout_quorum() <= t.count as u64
+        && all_good(&rec[t.place..], t.count, settings)
 }
 
 // A progress certificate, as it was read off its record.

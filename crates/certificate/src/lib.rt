@@ -9,10 +9,11 @@ pub mod safe;
 ghost use Rattle.std.specs.Prelude.{◌≡◌};
 ghost use Rattle.certificate.specs.Rank.{outranks, adopted, highest, carried_certificate};
 ghost use Rattle.certificate.specs.Good.{is_good, signer_count, signers_needed};
+ghost use Rattle.certificate.specs.Safe.{better};
 
 use codec::name::{is_zero, less};
 use settings::{Settings, View};
-use wire::Carried;
+use wire::{Carried, Kind};
 
 // A block certificate, or else a weak one.
 #[derive(Clone, Copy)]
@@ -30,56 +31,75 @@ pub struct Locks {
     pub weak: Certificate,
 }
 
+// How many back something, and which of the replicas.
+#[derive(Clone, Copy)]
+pub struct Tally {
+    pub count: u64,
+    pub signers: u64,
+}
+
+// The certificate inside a timeout.
+impl From<Carried> for Certificate {
+    ghost from_gives = { λ c k. k ≡ carried_certificate c };
+
+    #[tactic(auto, unfolding(crate::specs::Rank::carried_certificate))]
+    fn from(c: Carried) -> Certificate {
+        let name = c.name;
+        Certificate {
+            block: c.kind == Kind::BlockCertificate as u16,
+            view: c.view,
+            name,
+            signers: c.signers,
+        }
+    }
+}
+
 impl Certificate {
+    #[tactic(auto, unfolding(crate::specs::Rank::outranks))]
     pub fn outranks(self, other: Certificate) -> bool
         ensures { result ≡ outranks self other }
     {
-        let name = self.name;
-        let other_name = other.name;
-        if self.view.0 != other.view.0 {
-            return other.view.0 < self.view.0;
+        if self.view != other.view {
+            return other.view < self.view;
         }
-        if self.block {
-            if other.block {
-                return less(name, other_name);
-            }
-            return true;
+        if self.block != other.block {
+            return self.block;
         }
-        if other.block {
-            return false;
-        }
-        less(name, other_name)
+        less(self.name, other.name)
     }
 
+    // Of two candidates the later one only if it outranks the earlier.
+    #[tactic(auto, unfolding(crate::specs::Safe::better))]
+    fn better(self, earlier: Certificate) -> Certificate
+        ensures { result ≡ better self earlier }
+    {
+        if self.outranks(earlier) {
+            self
+        } else {
+            earlier
+        }
+    }
+
+    #[tactic(auto, unfolding(crate::specs::Rank::adopted, crate::specs::Safe::better))]
     pub fn adopt(self, locks: Locks) -> Locks
         ensures { result ≡ adopted self locks }
     {
-        let lock = locks.lock;
-        let weak = locks.weak;
         if self.block {
-            if self.outranks(lock) {
-                return Locks { lock: self, weak };
-            }
-            return locks;
+            let lock = self.better(locks.lock);
+            Locks { lock, ..locks }
+        } else {
+            let weak = self.better(locks.weak);
+            Locks { weak, ..locks }
         }
-        if self.outranks(weak) {
-            return Locks { lock, weak: self };
-        }
-        locks
     }
 
     // Enough signers, or the genesis certificate.
+    #[tactic(auto, unfolding(crate::specs::Good::is_good))]
     pub fn is_good(self, settings: Settings) -> bool
         ensures { result ≡ is_good settings self }
     {
-        let name = self.name;
         if self.view.0 == 0 {
-            if self.block {
-                if self.signers == 0 {
-                    return is_zero(name);
-                }
-            }
-            return false;
+            return self.block && self.signers == 0 && is_zero(self.name);
         }
         signers_needed(settings, self.block) <= signer_count(self.signers)
     }
@@ -87,15 +107,11 @@ impl Certificate {
 
 impl Locks {
     // What a timeout carries: the higher of the lock and the best weak certificate.
+    #[tactic(auto, unfolding(crate::specs::Rank::highest, crate::specs::Safe::better))]
     pub fn highest(self) -> Certificate
         ensures { result ≡ highest self }
     {
-        let lock = self.lock;
-        let weak = self.weak;
-        if weak.outranks(lock) {
-            return weak;
-        }
-        lock
+        self.weak.better(self.lock)
     }
 }
 
@@ -103,28 +119,16 @@ impl Locks {
 pub fn signer_count(signers: u64) -> u64
     ensures { result ≡ signer_count signers }
 {
-    u64::count_ones(signers) as u64
+    signers.count_ones() as u64
 }
 
+#[tactic(auto, unfolding(crate::specs::Good::signers_needed))]
 fn signers_needed(settings: Settings, block: bool) -> u64
     ensures { result ≡ signers_needed settings block }
 {
     if block {
-        return settings.block_quorum();
-    }
-    settings.weak_quorum()
-}
-
-// The certificate inside a timeout.
-pub fn carried(c: Carried) -> Certificate
-    ensures { result ≡ carried_certificate c }
-{
-    let name = c.name;
-    let view = c.view;
-    Certificate {
-        block: c.kind == 3,
-        view,
-        name,
-        signers: c.signers,
+        settings.block_quorum()
+    } else {
+        settings.weak_quorum()
     }
 }

@@ -33,6 +33,7 @@ pub struct Counters {
 }
 
 // What opening leaves: view 1, timed 0, no high vote, the genesis certificate as lock, no best weak, genesis as tip.
+#[tactic(auto, unfolding(crate::specs::Counters::opened))]
 pub fn opened() -> Counters
     ensures { result ≡ opened }
 {
@@ -59,54 +60,57 @@ pub fn opened() -> Counters
     }
 }
 
+// The lock is a block certificate, the best weak one is weak.
+#[tactic(auto, unfolding(crate::specs::Counters::certificate_of))]
 fn certificate_of(block: bool, s: Signed) -> Certificate
     ensures { result ≡ certificate_of block s }
 {
-    let view = s.view;
     let name = s.name;
     Certificate {
         block,
-        view,
+        view: s.view,
         name,
         signers: s.signers,
     }
 }
 
-fn signed_of(k: Certificate) -> Signed
-    ensures { result ≡ signed_of k }
-{
-    let view = k.view;
-    let name = k.name;
-    Signed {
-        view,
-        name,
-        signers: k.signers,
+impl From<Certificate> for Signed {
+    ghost from_gives = { λ k s. s ≡ signed_of k };
+
+    #[tactic(auto, unfolding(crate::specs::Counters::signed_of))]
+    fn from(k: Certificate) -> Signed {
+        let name = k.name;
+        Signed {
+            view: k.view,
+            name,
+            signers: k.signers,
+        }
     }
 }
 
+#[tactic(auto, unfolding(crate::specs::Counters::locks_of))]
 pub fn locks(c: Counters) -> Locks
     ensures { result ≡ locks_of c }
 {
-    let lock = c.lock;
-    let weak = c.weak;
     Locks {
-        lock: certificate_of(true, lock),
-        weak: certificate_of(false, weak),
+        lock: certificate_of(true, c.lock),
+        weak: certificate_of(false, c.weak),
     }
 }
 
+#[tactic(auto, unfolding(crate::specs::Counters::with_locks))]
 fn with_locks(c: Counters, locks: Locks) -> Counters
     ensures { result ≡ with_locks c locks }
 {
-    let lock = locks.lock;
-    let weak = locks.weak;
-    let mut next = c;
-    next.lock = signed_of(lock);
-    next.weak = signed_of(weak);
-    next
+    Counters {
+        lock: locks.lock.into(),
+        weak: locks.weak.into(),
+        ..c
+    }
 }
 
 // A certificate is adopted.
+#[tactic(auto, unfolding(crate::specs::Counters::adopting))]
 pub fn adopting(c: Counters, k: Certificate) -> Counters
     ensures { result ≡ adopting c k }
 {
@@ -114,48 +118,33 @@ pub fn adopting(c: Counters, k: Certificate) -> Counters
 }
 
 // A view is entered.
+#[tactic(auto, unfolding(crate::specs::Counters::entering))]
 pub fn entering(c: Counters, view: View) -> Counters
     ensures { result ≡ entering c view }
 {
-    let mut next = c;
-    next.view = view;
-    next
+    Counters { view, ..c }
 }
 
 // A timeout of a view has been sent.
+#[tactic(auto, unfolding(crate::specs::Counters::timing))]
 pub fn timing(c: Counters, view: View) -> Counters
     ensures { result ≡ timing c view }
 {
-    let mut next = c;
-    next.timed = view;
-    next
+    Counters { timed: view, ..c }
 }
 
 // A vote becomes the high vote.
+#[tactic(auto, unfolding(crate::specs::Counters::voting))]
 pub fn voting(c: Counters, vote: Vote) -> Counters
     ensures { result ≡ voting c vote }
 {
-    let mut next = c;
-    next.high = vote;
-    next
+    Counters { high: vote, ..c }
 }
 
-// A released block becomes the tip. Every accepted call ends with this: put together field by field it costs less than a copy of the whole with another tip
-// (docs/PERFORMANCE.md, "Where the time goes").
+// A released block becomes the tip.
+#[tactic(auto, unfolding(crate::specs::Counters::releasing))]
 pub fn releasing(c: Counters, tip: Block) -> Counters
     ensures { result ≡ releasing c tip }
 {
-    let view = c.view;
-    let timed = c.timed;
-    let high = c.high;
-    let lock = c.lock;
-    let weak = c.weak;
-    Counters {
-        view,
-        timed,
-        high,
-        lock,
-        weak,
-        tip,
-    }
+    Counters { tip, ..c }
 }

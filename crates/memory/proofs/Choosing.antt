@@ -9,11 +9,10 @@ use borrow.Author.Tests.{eqb-true, eqb-false}
 use lib.Dec.{eqb}
 use Rattle.codec.specs.Names.{name_length, less_bytes}
 use Rattle.codec.proofs.Order.{less_irrefl, less_trans}
-use Rattle.memory.specs.declared.decided.Choice.{Choice}
 use Rattle.memory.specs.declared.decided.Quorums.{Quorums}
 use Rattle.memory.specs.Layout.{vote_row, commit_row}
 use Rattle.memory.specs.Kept.{has, kept}
-use Rattle.memory.specs.Decided.{no_choice, chosen, above, improves, decided, consider, choose, next_decided}
+use Rattle.memory.specs.Decided.{Choice, no_choice, chosen, above, improves, decided, consider, choose, next_decided}
 
 -- x is an entry of one of the first n replicas in a row
 pub record Entry (m : List ℕ) (row n : ℕ) (x : List ℕ) : Type 0 where

@@ -10,8 +10,7 @@ use Rattle.codec.specs.Bytes.{patch}
 use Rattle.codec.proofs.Laws.{patch_append, patch_comm}
 use Rattle.wire.specs.Encode.{timeouts_bytes, timeouts_head_bytes}
 use Rattle.wire.proofs.Lengths.{length_timeouts_head, length_timeouts}
-use Rattle.memory.specs.declared.decided.Choice.{Choice}
-use Rattle.memory.specs.Decided.{consider, choose}
+use Rattle.memory.specs.Decided.{Choice, consider, choose}
 
 -- one replica more is considered
 pub choose_on : (m : List ℕ) (row : ℕ) (test : List ℕ → Bool) (after first : Choice) (k : ℕ) {b d : Choice} → b ≡ choose m row test after first k → d ≡ consider m row test after k b → d ≡ choose m row test after first (k + 1)

@@ -6,16 +6,15 @@ use mathlib.Core.Bool.{Bool, true, false, cond, ◌&&◌, ◌||◌, true≢false
 use mathlib.Core.List.{List}
 use Prim.Native.Nat.{ℕ, zero, suc, ◌+◌, ◌-◌, ◌≤◌, ◌<◌}
 use native.Mathlib.Omega.{arith}
-use borrow.Author.Tests.{le-leb, lt-leb, leb-true, leb-false, ltb-true}
-use lib.Dec.{leb, ltb}
+use borrow.Author.Tests.{lt-leb, leb-true, ltb-true}
+use lib.Dec.{ltb}
 use Rattle.settings.specs.Quorum.{largest}
 use Rattle.codec.specs.Names.{name_length, less_bytes}
 use Rattle.codec.proofs.Order.{and_true, same_eq, less_total}
-use Rattle.memory.specs.declared.decided.Choice.{Choice}
 use Rattle.memory.specs.declared.decided.Quorums.{Quorums}
 use Rattle.memory.specs.Layout.{vote_row, commit_row}
 use Rattle.memory.specs.Kept.{has, kept, kept_count, backs, tally}
-use Rattle.memory.specs.Decided.{no_choice, improves, backed, decided, too_few, consider, choose, next_decided}
+use Rattle.memory.specs.Decided.{Choice, no_choice, improves, backed, decided, too_few, consider, choose, next_decided}
 use Rattle.memory.proofs.Bits.{counted}
 use Rattle.memory.proofs.Counting.{kept_counted, tally-counted, tally_kept, backs-has, backs_same}
 use Rattle.memory.proofs.Choosing.{Entry, Candidate, Reached, Takes, considered, choose_from, choose_still, choose_reach, next_least, next_candidate, next_none}
@@ -176,18 +175,6 @@ module _ (m : List ℕ) (q : Quorums) (after : Choice) (some-votes : 1 ≤ q.vot
       go true e false f = absurd (next_none m q after f found.name (found_candidate e))
       go false e true f = absurd (true≢false (sym (found_least (next_decided m q after).name (next_candidate m q after f)).some ∙ e))
       go false e false f = nothing_found e ∙ sym (nothing_next f)
-
--- ---- `more_to_see` by cases
-module _ (quorum s t a b : ℕ) (e : s ≡ a) (f : t ≡ b) where
-  pub see_none : t < s → false ≡ leb (quorum + a) b
-  see_none h = sym (lt-leb (quorum + a) b (omega (arith, h, e, f)))
-
-  pub see_rest : s ≤ t → leb quorum (t - s) ≡ leb (quorum + a) b
-  see_rest h = go (leb quorum (t - s)) refl
-    where
-      go : (r : Bool) → leb quorum (t - s) ≡ r → r ≡ leb (quorum + a) b
-      go true g = sym (le-leb (quorum + a) b (omega (arith, h, e, f, leb-true quorum (t - s) g)))
-      go false g = sym (lt-leb (quorum + a) b (omega (arith, h, e, f, leb-false quorum (t - s) g)))
 
 -- ---- a view with too few entries has no decided name
 module _ (m : List ℕ) (q : Quorums) (small : q.n ≤ largest) (few : too_few m q ≡ true) where

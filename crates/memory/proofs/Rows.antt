@@ -10,7 +10,7 @@ use lib.Dec.{lit<}
 use lib.ListN.{length, take, drop, length-append}
 use Rattle.codec.specs.Bytes.{patch}
 use Rattle.codec.proofs.Laws.{length-part, part_lent, patch_nil, patch_append}
-use Rattle.memory.specs.declared.kept.Tally.{Tally}
+use Rattle.certificate.specs.declared.Tally.{Tally}
 use Rattle.memory.specs.Kept.{entry_at, has, kept, gathered, backs, tallied, tally}
 use Rattle.memory.proofs.Places.{entry_inside}
 

@@ -4,19 +4,19 @@ use mathlib.Core.Path.{◌≡◌, refl, sym, ap, ◌∙◌}
 use mathlib.Core.Logic.{inl, inr}
 use mathlib.Core.Bool.{Bool, true, false, cond, ◌&&◌, ◌||◌, true≢false, false≢true}
 use mathlib.Core.List.{List}
+use Rattle.std.proofs.Common.{Option}
+use Rattle.std.specs.Bool.{then_some}
 use Prim.Native.Nat.{ℕ, zero, suc, ◌+◌, ◌-◌, ◌≤◌, ◌<◌}
 use native.Mathlib.Omega.{arith}
 use borrow.Author.Tests.{leb-true, lt-leb, ltb-true}
 use Rattle.settings.specs.Quorum.{largest}
 use Rattle.codec.specs.Names.{name_length, zero_name, same_bytes}
 use Rattle.codec.proofs.Order.{and_true, same_eq, same_refl, less_irrefl}
-use Rattle.memory.specs.declared.decided.Choice.{Choice}
 use Rattle.memory.specs.declared.decided.Quorums.{Quorums}
 use Rattle.memory.specs.declared.decided.Standing.{Standing}
-use Rattle.memory.specs.declared.decided.Finding.{Finding}
 use Rattle.memory.specs.Layout.{vote_row, commit_row}
 use Rattle.memory.specs.Kept.{has, kept, kept_count, backs, tally}
-use Rattle.memory.specs.Decided.{no_choice, chosen, finding, above, backed, alone_in, standing, alone, decided, next_decided, first_of, likely, find_decided}
+use Rattle.memory.specs.Decided.{Choice, no_choice, chosen, decision, choice_of, above, backed, alone_in, standing, alone, decided, next_decided, first_of, likely, find_decided}
 use Rattle.memory.proofs.Bits.{counted}
 use Rattle.memory.proofs.Counting.{kept_counted, tally-counted, backs-has, backs_same}
 use Rattle.memory.proofs.Choosing.{Candidate, next_candidate, next_none}
@@ -127,6 +127,10 @@ module _ (m : List ℕ) (row : ℕ) where
       let g : i + 1 ≡ suc i = omega arith in
       rw (f, g, e) refl
 
+choice_then : (t : Bool) (x : List ℕ) → choice_of (then_some t x) ≡ cond t (chosen x) no_choice
+choice_then true x = refl
+choice_then false x = refl
+
 -- ---- THE SURVEY, as the code takes it
 module _ (m : List ℕ) (q : Quorums) (after : Choice) {x : List ℕ} {votes commits : ℕ} {v c : Standing} (is_x : x ≡ likely m q) (is-votes : votes ≡ vote_row q.view.0) (is-commits : commits ≡ commit_row q.view.0)
     (is-v : v ≡ standing m votes q.n q.votes x) (is_c : c ≡ standing m commits q.n q.commits x)
@@ -139,12 +143,12 @@ module _ (m : List ℕ) (q : Quorums) (after : Choice) {x : List ℕ} {votes com
     unfolding standing decided
     decided_is = rw (is-v, is_c, is-votes, is-commits, is_x) refl
 
-    pub found_sole : q.n ≤ largest → 1 ≤ q.votes → 1 ≤ q.commits → (v.alone && c.alone) ≡ true → {r : Finding} → r ≡ finding (cond ((v.backed || c.backed) && above after x) (chosen x) no_choice) true → r ≡ find_decided m q after
+    pub found_sole : q.n ≤ largest → 1 ≤ q.votes → 1 ≤ q.commits → (v.alone && c.alone) ≡ true → {t : Bool} {o : Option (List ℕ)} → t ≡ ((v.backed || c.backed) && above after x) → o ≡ then_some t x → decision (choice_of o) true ≡ find_decided m q after
     unfolding find_decided
-    found_sole small some-votes some-commits a e =
+    found_sole small some-votes some-commits a {t} e f =
         let only : alone m q (likely m q) ≡ true = sym only_is ∙ a in
-        e ∙ rw (decided_is, is_x, sole_next m q small (likely m q) only some-votes some-commits after, only) refl
+        rw (f, choice_then t x, e, decided_is, is_x, sole_next m q small (likely m q) only some-votes some-commits after, only) refl
 
-    pub found_by_search : (v.alone && c.alone) ≡ false → {y : Choice} → y ≡ next_decided m q after → finding y false ≡ find_decided m q after
+    pub found_by_search : (v.alone && c.alone) ≡ false → {y : Choice} → y ≡ next_decided m q after → decision y false ≡ find_decided m q after
     unfolding find_decided
     found_by_search a e = rw (e, sym only_is ∙ a) refl

@@ -1,18 +1,32 @@
 -- The names of a view that enough votes or commits decide, "lowest view first, then smaller name" (01: The box, rules C and D). Assumes nothing.
-use Rattle.std.specs.Prelude.{ℕ, zero, suc, ◌-◌, Bool, true, false, cond, not, ◌&&◌, ◌||◌, List, leb, ltb}
+use Rattle.std.specs.Prelude.{ℕ, zero, suc, ◌-◌, Bool, true, false, cond, not, ◌&&◌, ◌||◌, List, Option, Some, None, leb, ltb}
 use Rattle.codec.specs.Names.{name_length, zero_name, less_bytes}
-use Rattle.memory.specs.declared.decided.Choice.{Choice}
 use Rattle.memory.specs.declared.decided.Quorums.{Quorums}
 use Rattle.memory.specs.declared.decided.Standing.{Standing}
-use Rattle.memory.specs.declared.decided.Finding.{Finding}
 use Rattle.memory.specs.Layout.{vote_row, commit_row}
 use Rattle.memory.specs.Kept.{has, kept, kept_count, tally}
+
+-- a name, or none
+pub record Choice : Type 0 where
+  pub some : Bool
+  pub name : List ℕ
+
+-- the next decided name, if there is one, and whether no other name of the view is decided
+pub record Decision : Type 0 where
+  pub some : Bool
+  pub name : List ℕ
+  pub only : Bool
 
 abbrev pub no_choice : Choice
 no_choice = record { some = false; name = zero_name }
 
 abbrev pub chosen : List ℕ → Choice
 chosen x = record { some = true; name = x }
+
+-- what an `Option` of the code means
+abbrev pub choice_of : Option (List ℕ) → Choice
+choice_of None = no_choice
+choice_of (Some x) = chosen x
 
 -- above the bound, if there is one
 unfoldable pub above : Choice → List ℕ → Bool
@@ -23,8 +37,8 @@ unfoldable pub improves : Choice → Choice → List ℕ → Bool
 improves after best x = above after x && (not best.some || less_bytes x best.name)
 
 -- a name, if there is one, and whether no other is decided
-abbrev pub finding : Choice → Bool → Finding
-finding x only = record { some = x.some; name = x.name; only = only }
+abbrev pub decision : Choice → Bool → Decision
+decision x only = record { some = x.some; name = x.name; only = only }
 
 module _ (m : List ℕ) where
   -- enough of the first n replicas have an entry for x in a row
@@ -75,5 +89,5 @@ module _ (m : List ℕ) where
   likely q = first_of (cond (ltb (kept_count m (vote_row q.view.0) q.n) q.votes) (commit_row q.view.0) (vote_row q.view.0)) 0 q.n
 
   -- the least decided name above a bound, and whether it is clear that no other name is decided
-  unfoldable pub find_decided : Quorums → Choice → Finding
-  find_decided q after = finding (next_decided q after) (alone q (likely q))
+  unfoldable pub find_decided : Quorums → Choice → Decision
+  find_decided q after = decision (next_decided q after) (alone q (likely q))

@@ -6,7 +6,7 @@ use Rattle.codec.specs.Names.{name_length, same_bytes}
 use Rattle.wire.specs.Fields.{number_at}
 use Rattle.certificate.specs.Good.{signer_count}
 use Rattle.certificate.specs.Safe.{signs}
-use Rattle.memory.specs.declared.kept.Tally.{Tally}
+use Rattle.certificate.specs.declared.Tally.{Tally}
 use Rattle.memory.specs.Layout.{row_size}
 
 -- where replica i's entry stands in a row

@@ -8,7 +8,7 @@ ghost use Rattle.memory.specs.Kept.{entry_at, mask, has, kept_count, keep, clear
 
 use crate::{BALLOT_ROWS, ENTRY_PLACE, TIMEOUT_ROWS};
 use certificate::safe::signs;
-use certificate::signer_count;
+use certificate::{Tally, signer_count};
 use codec::name::is_at;
 use codec::num::{put_u64, u64_at};
 use codec::{clear, put};
@@ -29,13 +29,6 @@ const TIMEOUTS: usize = COMMITS + NAME_ROW * BALLOT_ROWS as usize;
 
 // Where the last row ends.
 pub const END: usize = TIMEOUTS + TIMEOUT_ROW * TIMEOUT_ROWS as usize;
-
-// How many replicas back a name, and which.
-#[derive(Clone, Copy)]
-pub struct Tally {
-    pub count: u64,
-    pub signers: u64,
-}
 
 pub fn vote_row(view: View) -> usize
     ensures { result ≡ vote_row view.0 }
@@ -105,14 +98,12 @@ pub fn clear_row(mem: &mut [u8], row: usize, width: usize)
     clear(mem, row, 8 + width * LARGEST);
 }
 
+#[tactic(auto, unfolding(crate::specs::Kept::backs, crate::specs::Kept::kept))]
 fn backs(mem: &[u8], row: usize, name: [u8; 32], i: usize) -> bool
     requires { (row ≤ 65535) × ((i < largest) × (row + row_size name_length ≤ length mem.now)) }
     ensures { result ≡ backs mem.now row name i }
 {
-    if has(mem, row, i as u64) {
-        return is_at(mem, entry_at(row, 32, i), name);
-    }
-    false
+    has(mem, row, i as u64) && is_at(mem, entry_at(row, 32, i), name)
 }
 
 fn tallied(mem: &[u8], row: usize, name: [u8; 32], i: usize, c: Tally) -> Tally
@@ -137,10 +128,8 @@ pub fn count_backers(mem: &[u8], row: usize, name: [u8; 32], n: usize) -> Tally
         count: 0,
         signers: 0,
     };
-    let mut i = 0;
-    while i < n {
+    for i in 0..n {
         c = tallied(mem, row, name, i, c);
-        i += 1;
     }
     c
 }
@@ -151,10 +140,8 @@ pub fn gather(mem: &[u8], row: usize, width: usize, n: usize, out: &mut [u8], at
     ensures { (result ≡ at + length (gathered mem.now row width 0 n)) × (out.new ≡ patch out.old at (gathered mem.now row width 0 n)) }
 {
     let mut to = at;
-    let mut i = 0;
-    while i < n {
+    for i in 0..n {
         to = gather_one(mem, row, width, i, out, to);
-        i += 1;
     }
     to
 }

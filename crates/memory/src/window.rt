@@ -16,10 +16,7 @@ const LAST_KEPT: u64 = View::LAST.0 - 1;
 pub fn lowest(view: View) -> View
     ensures { result.0 ≡ lowest view.0 }
 {
-    if view.0 < 6 {
-        return View(1);
-    }
-    View(view.0 - 4)
+    View(view.0.saturating_sub(4).max(1))
 }
 
 // The last view of a window.
@@ -27,10 +24,7 @@ pub fn highest(view: View) -> View
     requires { view.0 ≤ last_view }
     ensures { result.0 ≡ highest view.0 }
 {
-    if view.0 + 3 < LAST_KEPT {
-        return View(view.0 + 3);
-    }
-    View(LAST_KEPT)
+    View((view.0 + 3).min(LAST_KEPT))
 }
 
 // How many views come into a window of so many rows.
@@ -38,21 +32,16 @@ fn incoming(rows: u64, old: View, new: View) -> u64
     requires { old.0 ≤ new.0 }
     ensures { result ≡ incoming rows old.0 new.0 }
 {
-    if new.0 - old.0 < rows {
-        return new.0 - old.0;
-    }
-    rows
+    (new.0 - old.0).min(rows)
 }
 
 pub fn drop_ballots(mem: &mut [u8], from: View, k: u64)
     requires { (memory_length ≤ length mem.old) × (from.0 + k < 2 ^ 63) }
     ensures { mem.new ≡ without_ballots mem.old from.0 k }
 {
-    let mut i: u64 = 0;
-    while i < k {
+    for i in 0..k {
         clear_row(mem, vote_row(View(from.0 + i)), 32);
         clear_row(mem, commit_row(View(from.0 + i)), 32);
-        i += 1;
     }
 }
 
@@ -60,10 +49,8 @@ pub fn drop_timeouts(mem: &mut [u8], from: View, k: u64)
     requires { (memory_length ≤ length mem.old) × (from.0 + k < 2 ^ 63) }
     ensures { mem.new ≡ without_timeouts mem.old from.0 k }
 {
-    let mut i: u64 = 0;
-    while i < k {
+    for i in 0..k {
         clear_row(mem, timeout_row(View(from.0 + i)), length::TIMEOUT);
-        i += 1;
     }
 }
 

@@ -1,5 +1,5 @@
-use Prim.Native.Nat.{◌<◌}
-use borrow.Author.Tests.{lt-ltb, lt-leb, le-leb}
+use Rattle.std.proofs.lemmas.Grind.{common_steps}
+use Rattle.std.proofs.lemmas.Bool.Decides.{nat_tests}
 use lib.ListN.{length-drop}
 use Rattle.codec.proofs.Laws.{part-drop, part_rest}
 use Rattle.wire.specs.Content.{progress_means, Within}
@@ -8,21 +8,21 @@ use Rattle.certificate.proofs.Timeouts.{count_timeouts}
 use native.Mathlib.Omega.{arith}
 use Rattle.certificate.proofs.good.timeouts_good.Goals as goal
 
-pub overflow_add-at : goal.overflow_add-at
+pub overflow_add-t : goal.overflow_add-t
 unfolding Within
-overflow_add-at c = omega (arith, c.requires)
+overflow_add-t c = omega (arith, c.requires)
 
 pub u64_at-requires : goal.u64_at-requires
 unfolding Within
 u64_at-requires c = omega (arith, c.requires)
 
-pub returns-then-u64_at-eq0 : goal.returns-then-u64_at-eq0
+pub returns-then-timeout_quorum-t : goal.returns-then-timeout_quorum-t
 unfolding progress_good progress_means
-returns-then-u64_at-eq0 c = rw (part-drop, ← c.u64_at.ensures, c.if-u64_at-eq0.true)
+returns-then-timeout_quorum-t c = rw (part-drop, ← c.u64_at.ensures, count_timeouts, c.all_good.ensures, part_rest) (grind (arith, common_steps, nat_tests))
 
-pub returns-then-count-timeout_quorum : goal.returns-then-count-timeout_quorum
+pub returns-else-timeout_quorum-t : goal.returns-else-timeout_quorum-t
 unfolding progress_good progress_means
-returns-then-count-timeout_quorum c = let h : 0 < c.u64_at.result = omega arith in rw (part-drop, ← c.u64_at.ensures, lt-ltb _ _ h, count_timeouts, ← c.timeout_quorum.ensures, lt-leb _ _ c.if-count-timeout_quorum.true)
+returns-else-timeout_quorum-t c = rw (part-drop, ← c.u64_at.ensures, count_timeouts) (grind (arith, common_steps, nat_tests))
 
 pub slice_bounds-all_good-count : goal.slice_bounds-all_good-count
 unfolding Within
@@ -35,7 +35,3 @@ slice_bounds-all_good-start c = omega (arith, c.requires)
 pub all_good-requires : goal.all_good-requires
 unfolding Within
 all_good-requires c = rw (part_rest, length-drop) (omega (arith, c.requires))
-
-pub returns : goal.returns
-unfolding progress_good progress_means
-returns c = let h : 0 < c.u64_at.result = omega arith in rw (part-drop, ← c.u64_at.ensures, lt-ltb _ _ h, count_timeouts, ← c.timeout_quorum.ensures, le-leb _ _ c.if-count-timeout_quorum.false, c.all_good.ensures, part_rest)

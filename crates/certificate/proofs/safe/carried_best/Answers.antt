@@ -1,17 +1,15 @@
-use mathlib.Core.Path.{refl, sym, ◌∙◌}
+use mathlib.Core.Path.{sym, ◌∙◌}
+use Rattle.wire.proofs.Turns.{slot_turn}
 use Rattle.certificate.specs.Safe.{carried_by}
 use Rattle.certificate.proofs.Timeouts.{each_on, each_end}
-use borrow.Author.Rules.{rules}
-use native.Mathlib.Omega.{arith}
 use Rattle.certificate.proofs.safe.carried_best.Goals as goal
 
-pub loop-i-init : goal.loop-i-init
-loop-i-init c = (search rules, refl)
-
-pub loop-i-preserved : goal.loop-i-preserved
+pub loop-slot-preserved : goal.loop-slot-preserved
 unfolding carried_by
-loop-i-preserved c = let l = c.loop-i in
-    (omega arith, l.invariant.1 ∙ each_on carried_by _ _ _ _ c.loop-i-test.true (rw (c.better-best.ensures, c.carried.ensures, c.timeout-t.ensures)))
+loop-slot-preserved c = let l = c.loop-slot in record {
+  size = (slot_turn l.slot-iterator c.next.new.self l.invariant.size c.in-Some.slot c.in-Some.ensures.steps).0;
+  rest = l.invariant.rest ∙ each_on l.slot-iterator c.next.new.self l.invariant.size carried_by _ c.in-Some.slot c.in-Some.ensures.steps (rw (c.better-best.ensures, c.from.ensures, c.timeout.ensures));
+}
 
 pub returns : goal.returns
-returns c = sym (c.loop-i.invariant.1 ∙ each_end _ _ _ _ _ c.loop-i-test.false)
+returns c = let l = c.loop-slot in sym (l.invariant.rest ∙ each_end l.slot-iterator c.next.new.self l.invariant.size _ _ c.in-None.ensures.steps)

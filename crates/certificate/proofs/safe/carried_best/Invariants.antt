@@ -1,11 +1,13 @@
 use mathlib.Core.Path.{◌≡◌}
-use Prim.Native.Nat.{◌-◌, ◌≤◌}
-use Rattle.wire.proofs.Turns.{timeouts_from}
+use mathlib.Core.List.{map}
+use Rattle.std.specs.Slice.Iter.{chunks_exact_size}
+use Rattle.wire.specs.Fields.{slots_left}
+use Rattle.wire.specs.Content.{timeout_of}
 use Rattle.certificate.specs.Safe.{each, carried_by}
 use Rattle.certificate.proofs.safe.carried_best.Given as goal
 
-abbrev pub invariant-loop-i : goal.invariant-loop-i
-invariant-loop-i l = (l.i ≤ l.count) × (each carried_by l.initial.best (timeouts_from l.rec l.count l.from) ≡ each carried_by l.best (timeouts_from l.rec l.count l.i))
-
-abbrev pub decreases-loop-i : goal.decreases-loop-i
-decreases-loop-i l = l.count - l.i
+abbrev pub invariant-loop-slot : goal.invariant-loop-slot
+invariant-loop-slot l = record {
+  size : chunks_exact_size l.slot-iterator ≡ 112;
+  rest : each carried_by l.fn.k (map timeout_of (slots_left l.fn.slots)) ≡ each carried_by l.best (map timeout_of (slots_left l.slot-iterator));
+}

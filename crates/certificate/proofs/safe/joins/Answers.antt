@@ -1,7 +1,9 @@
+use Rattle.std.proofs.lemmas.Grind.{common_steps}
+use Rattle.std.proofs.lemmas.Bool.Decides.{nat_tests}
 use mathlib.Core.Path.{◌≡◌, sym, ◌∙◌}
 use Prim.Native.Nat.{◌<◌}
-use mathlib.Core.Bool.{true, false}
-use borrow.Author.Tests.{lt-ltb, le-ltb}
+use mathlib.Core.Bool.{false}
+use borrow.Author.Tests.{lt-ltb}
 use Rattle.codec.proofs.Words.{shifted}
 use Rattle.certificate.specs.Safe.{joins}
 use Rattle.certificate.proofs.Signers.{joined_lt}
@@ -15,10 +17,6 @@ pub returns-then-not-signs : goal.returns-then-not-signs
 unfolding joins
 returns-then-not-signs c = let h : c.args.i < 64 = omega arith in let e : c.signs.result ≡ false = c.if-not-signs.true in rw (lt-ltb _ _ c.if-i-n.true, ← c.signs.ensures, e, shifted _ h)
 
-pub returns-else-not-signs : goal.returns-else-not-signs
+pub returns : goal.returns
 unfolding joins
-returns-else-not-signs c = let e : c.signs.result ≡ true = c.if-not-signs.false in rw (lt-ltb _ _ c.if-i-n.true, ← c.signs.ensures, e)
-
-pub returns-else-i-n : goal.returns-else-i-n
-unfolding joins
-returns-else-i-n c = rw (le-ltb _ _ c.if-i-n.false)
+returns c = grind (arith, common_steps, nat_tests)

@@ -1,5 +1,4 @@
 use mathlib.Core.Path.{refl}
-use Rattle.memory.proofs.decided.backed.Lts as lts
 use Rattle.memory.proofs.decided.backed.Goals as goal
 
 pub returns : goal.returns

@@ -1,3 +1,5 @@
+use Rattle.std.proofs.Common.{arith}
+use Rattle.std.proofs.lemmas.Grind.{common_steps}
 use mathlib.Core.Path.{◌≡◌}
 use mathlib.Core.Bool.{true, false}
 use Rattle.memory.specs.Kept.{kept}
@@ -8,20 +10,11 @@ pub returns-then-not-has : goal.returns-then-not-has
 unfolding consider
 returns-then-not-has c = let e : c.has.result ≡ false = c.if-not-has.true in rw (← c.has.ensures, e)
 
-pub returns-then-not-improves : goal.returns-then-not-improves
-unfolding consider kept
-returns-then-not-improves c = let e : c.has.result ≡ true = c.if-not-has.false in
-    let f : c.improves.result ≡ false = c.if-not-improves.true in
-    rw (← c.has.ensures, e, ← c.entry_at.ensures, ← c.name_at-name.ensures, ← c.improves.ensures, f)
-
 pub returns-then-backed : goal.returns-then-backed
 unfolding consider kept
 returns-then-backed c = let e : c.has.result ≡ true = c.if-not-has.false in
-    let f : c.improves.result ≡ true = c.if-not-improves.false in
-    rw (← c.has.ensures, e, ← c.entry_at.ensures, ← c.name_at-name.ensures, ← c.improves.ensures, f, ← c.backed.ensures, c.if-backed.true)
+    rw (← c.has.ensures, e, ← c.entry_at.ensures, ← c.name_at-name.ensures, ← c.improves.ensures, c.if-improves.true, ← c.backed.ensures, c.if-backed.true)
 
 pub returns : goal.returns
 unfolding consider kept
-returns c = let e : c.has.result ≡ true = c.if-not-has.false in
-    let f : c.improves.result ≡ true = c.if-not-improves.false in
-    rw (← c.has.ensures, e, ← c.entry_at.ensures, ← c.name_at-name.ensures, ← c.improves.ensures, f, ← c.backed.ensures, c.if-backed.false)
+returns c = grind (arith, common_steps)

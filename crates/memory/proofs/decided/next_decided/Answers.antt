@@ -1,6 +1,6 @@
 use mathlib.Core.Path.{sym, ◌∙◌}
+use Rattle.memory.specs.Decided.{choice_of}
 use Rattle.memory.proofs.Passing.{found_is_next, few_none}
-use Rattle.memory.proofs.decided.next_decided.Lts as lts
 use Rattle.memory.proofs.decided.next_decided.Goals as goal
 
 pub too_few-requires : goal.too_few-requires
@@ -11,4 +11,4 @@ returns-then-too_few c = sym (few_none _ _ c.requires.1.0 (sym c.too_few.ensures
 
 pub returns : goal.returns
 returns c = let p = c.requires in
-    rw (c.choose.ensures, c.choose-voted.ensures, c.commit_row.ensures, c.vote_row.ensures) (found_is_next _ c.args.q c.args.after p.1.1.0 p.1.1.1)
+    rw (c.choose.ensures, c.choose-voted.ensures, c.commit_row.ensures, c.vote_row.ensures) (found_is_next _ c.args.q (choice_of c.args.after) p.1.1.0 p.1.1.1)

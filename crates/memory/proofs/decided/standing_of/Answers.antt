@@ -1,10 +1,9 @@
 use mathlib.Core.Path.{◌≡◌, ap}
-use Rattle.memory.specs.declared.kept.Tally.{Tally}
+use Rattle.certificate.specs.declared.Tally.{Tally}
 use Rattle.memory.specs.Kept.{tally}
 use Rattle.memory.specs.Decided.{standing}
 use Rattle.memory.proofs.Counting.{tally_kept}
 use native.Mathlib.Omega.{arith}
-use Rattle.memory.proofs.decided.standing_of.Lts as lts
 use Rattle.memory.proofs.decided.standing_of.Goals as goal
 
 pub overflow_sub-others : goal.overflow_sub-others
