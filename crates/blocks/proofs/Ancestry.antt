@@ -8,7 +8,7 @@ use lib.Dec.{T as Holds}
 use borrow.Author.Tests.{ltb-true, le-ltb}
 use Rattle.codec.specs.Names.{same_bytes}
 use Rattle.blocks.specs.Store.{held, below, leads, descends, line, ancestry}
-use Rattle.blocks.specs.Steps.{onward_of}
+use Rattle.blocks.specs.Steps.{goes_on, ends_well}
 use Rattle.blocks.specs.declared.Block.{Block}
 
 pub never : {X : Type 0} → false ≡ true → X
@@ -83,7 +83,7 @@ module _ (tip : Block) (store : List Block) where
 
   -- ---- one step, of a block b whose height is h
   step_at : (b : Block) (h : ℕ) → b.height.0 ≡ h
-      → leads h tip store b ≡ cond (onward_of tip b (held tip store b.parent)).goes (descends tip store (held tip store b.parent).block) (onward_of tip b (held tip store b.parent)).ends
+      → leads h tip store b ≡ cond (goes_on tip b (held tip store b.parent)) (descends tip store (held tip store b.parent).block) (ends_well tip b)
   unfolding leads
   step_at b zero e =
       let c = held tip store b.parent in let s = same_bytes tip.name b.parent in
@@ -98,18 +98,18 @@ module _ (tip : Block) (store : List Block) where
       leads_enough k c.block (omega (arith, l, e)))))
       ∙ one_step s (below tip b) c.is (below c.block b) (descends tip store c.block)
 
-  pub descends_step : (b : Block) → descends tip store b ≡ cond (onward_of tip b (held tip store b.parent)).goes (descends tip store (held tip store b.parent).block) (onward_of tip b (held tip store b.parent)).ends
+  pub descends_step : (b : Block) → descends tip store b ≡ cond (goes_on tip b (held tip store b.parent)) (descends tip store (held tip store b.parent).block) (ends_well tip b)
   unfolding descends
   descends_step b = step_at b b.height.0 refl
 
-  pub descends_on : (b : Block) → (onward_of tip b (held tip store b.parent)).goes ≡ true → descends tip store b ≡ descends tip store (held tip store b.parent).block
-  descends_on b e = descends_step b ∙ ap (λ (z : Bool). cond z (descends tip store (held tip store b.parent).block) (onward_of tip b (held tip store b.parent)).ends) e
+  pub descends_on : (b : Block) → goes_on tip b (held tip store b.parent) ≡ true → descends tip store b ≡ descends tip store (held tip store b.parent).block
+  descends_on b e = descends_step b ∙ ap (λ (z : Bool). cond z (descends tip store (held tip store b.parent).block) (ends_well tip b)) e
 
-  pub descends_off : (b : Block) → (onward_of tip b (held tip store b.parent)).goes ≡ false → descends tip store b ≡ (onward_of tip b (held tip store b.parent)).ends
-  descends_off b e = descends_step b ∙ ap (λ (z : Bool). cond z (descends tip store (held tip store b.parent).block) (onward_of tip b (held tip store b.parent)).ends) e
+  pub descends_off : (b : Block) → goes_on tip b (held tip store b.parent) ≡ false → descends tip store b ≡ ends_well tip b
+  descends_off b e = descends_step b ∙ ap (λ (z : Bool). cond z (descends tip store (held tip store b.parent).block) (ends_well tip b)) e
 
   -- where it goes on, the height falls
-  pub lower : (b : Block) → (onward_of tip b (held tip store b.parent)).goes ≡ true → (held tip store b.parent).block.height.0 < b.height.0
+  pub lower : (b : Block) → goes_on tip b (held tip store b.parent) ≡ true → (held tip store b.parent).block.height.0 < b.height.0
   lower b e =
       let c = held tip store b.parent in
       ltb-true c.block.height.0 b.height.0 (goes_below (same_bytes tip.name b.parent) c.is (below c.block b) e).1.1
@@ -142,13 +142,13 @@ module _ (tip : Block) (store : List Block) where
   unfolding descends ancestry
   ancestry_step b d = line_at b b.height.0 refl d
 
-  pub ancestry_on : (b : Block) → descends tip store b ≡ true → (onward_of tip b (held tip store b.parent)).goes ≡ true → ancestry tip store b ≡ ancestry tip store (held tip store b.parent).block ++ (b ∷ [])
+  pub ancestry_on : (b : Block) → descends tip store b ≡ true → goes_on tip b (held tip store b.parent) ≡ true → ancestry tip store b ≡ ancestry tip store (held tip store b.parent).block ++ (b ∷ [])
   ancestry_on b d e =
       let c = held tip store b.parent in
       ancestry_step b d
       ∙ ap (λ (z : Bool). cond z (b ∷ []) (ancestry tip store c.block ++ (b ∷ []))) (goes_below (same_bytes tip.name b.parent) c.is (below c.block b) e).0
 
-  pub ancestry_off : (b : Block) → descends tip store b ≡ true → (onward_of tip b (held tip store b.parent)).goes ≡ false → ancestry tip store b ≡ b ∷ []
+  pub ancestry_off : (b : Block) → descends tip store b ≡ true → goes_on tip b (held tip store b.parent) ≡ false → ancestry tip store b ≡ b ∷ []
   ancestry_off b d e =
       let c = held tip store b.parent in
       ancestry_step b d

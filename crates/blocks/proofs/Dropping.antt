@@ -1,17 +1,16 @@
 -- The drop, one entry at a time, from behind. Assumes nothing.
 use mathlib.Core.Path.{◌≡◌, refl, sym, ◌∙◌, ap, subst}
-use Prim.Native.Nat.{ℕ, suc, ◌+◌, ◌-◌, ◌^◌, ◌<◌, ◌≤◌}
+use Prim.Native.Nat.{ℕ, suc, ◌+◌, ◌<◌, ◌≤◌}
 use native.Mathlib.Omega.{arith}
 use mathlib.Core.Bool.{Bool, true, false, cond}
 use mathlib.Core.List.{List, [], ◌∷◌, ◌++◌}
 use lib.Dec.{ltb}
 use lib.ListN.{length, take, drop, get_or, set, drop_of_length-le}
-use lib.Seq.{sets, sets-eq, length-sets, set_comm, set_out, drop-cons, get_or-take, length-take-le, take_all}
+use lib.Seq.{sets, sets-eq, set_comm, drop-cons, length-take-le, take_all}
 use borrow.Author.Tests.{ltb-true, ltb-false}
 use Rattle.blocks.specs.Store.{genesis, descends, only, kept, dropped}
-use Rattle.blocks.specs.Steps.{kept_from, spot_of}
+use Rattle.blocks.specs.Steps.{kept_from}
 use Rattle.blocks.specs.declared.Block.{Block}
-use Rattle.blocks.specs.declared.Spot.{Spot}
 
 -- ---- how many are held
 pub length_lesser : (n : ℕ) (l : List Block) → length (take n l) ≡ cond (ltb n (length l)) n (length l)
@@ -43,10 +42,6 @@ length-only test (b ∷ l) = by_test (test b) (length-only test l)
     by_test false h = omega arith
 
 -- ---- one entry more
-pub next_most : (keep : Bool) (at : ℕ) → (spot_of keep at).next ≤ at + 1
-next_most true at = omega arith
-next_most false at = omega arith
-
 -- what the drop leaves: r, the place behind what is kept from place i on, and w, the entries then
 abbrev pub Stored : Block → List Block → List Block → ℕ → ℕ → ℕ → List Block → Type 0
 Stored tip store entries i at r w = (r ≡ at + length (kept_from tip store i)) × (w ≡ sets entries at (kept_from tip store i))
@@ -66,36 +61,21 @@ stored_none tip store entries i at h =
     let none : kept_from tip store i ≡ [] = ap (only (descends tip store)) (drop_of_length-le store h) in
     (omega (arith, ap length none), ap (sets entries at) (sym none))
 
-more_by : (tip : Block) (store entries : List Block) (i at r : ℕ) (v w : List Block) (b : Block) (t : Bool) → length entries < 2 ^ 64
-    → kept_from tip store i ≡ cond t (b ∷ kept_from tip store (i + 1)) (kept_from tip store (i + 1))
-    → Stored tip store entries (i + 1) (spot_of t at).next r v → w ≡ set v (spot_of t at).at b → Stored tip store entries i at r w
-more_by tip store entries i at r v w b true room e before here =
-    let row = kept_from tip store (i + 1) in
-    let next : at + 1 ≡ suc at = omega arith in (
-      omega (arith, before.0, ap length e),
-      here ∙ ap (λ (z : List Block). set z at b) before.1 ∙ set-sets entries row at (at + 1) b (omega arith) ∙ ap (λ (k : ℕ). sets (set entries at b) k row) next ∙ ap (sets entries at) (sym e),
-    )
-more_by tip store entries i at r v w b false room e before here =
-    let row = kept_from tip store (i + 1) in
-    let size : length v ≡ length entries = ap length before.1 ∙ length-sets entries at row in (
-      before.0 ∙ ap (λ (z : List Block). at + length z) (sym e),
-      here ∙ set_out v (2 ^ 64 - 1) b (omega (arith, size, room)) ∙ before.1 ∙ ap (sets entries at) (sym e),
-    )
+-- the entry at place i is kept: what lies behind it is stored, and it is stored; or it is not
+module _ (tip : Block) (store entries : List Block) (i at r : ℕ) (v : List Block) (within : i < length store) where
+  pub stored_more : (b : Block) → b ≡ get_or store i genesis → descends tip store (get_or store i genesis) ≡ true → Stored tip store entries (i + 1) (at + 1) r v → Stored tip store entries i at r (set v at b)
+  stored_more b is good before =
+      let row = kept_from tip store (i + 1) in
+      let next : at + 1 ≡ suc at = omega arith in
+      let e : kept_from tip store i ≡ b ∷ row = rw (kept_cons tip store i within, good, is) refl in (
+        omega (arith, before.0, ap length e),
+        ap (λ (z : List Block). set z at b) before.1 ∙ set-sets entries row at (at + 1) b (omega arith) ∙ ap (λ (k : ℕ). sets (set entries at b) k row) next ∙ ap (sets entries at) (sym e),
+      )
 
--- the entry at place i is judged, what lies behind it is stored, and it is stored
-pub stored_more : (tip : Block) (n : ℕ) (entries : List Block) (i at r : ℕ) (v w : List Block) (b : Block) (t : Bool) (s : Spot) → length entries < 2 ^ 64 → i < length (take n entries)
-    → b ≡ get_or entries i genesis → t ≡ descends tip (take n entries) b → s ≡ spot_of t at
-    → Stored tip (take n entries) entries (i + 1) s.next r v → w ≡ set v s.at b → Stored tip (take n entries) entries i at r w
-stored_more tip n entries i at r v w b t s room within is_b is-t is-s before here =
-    let store = take n entries in
-    let within-n : i < n = omega (arith, within, (held_within n entries).0) in
-    let is : get_or store i genesis ≡ b = get_or-take n entries i genesis within-n ∙ sym is_b in
-    more_by tip store entries i at r v w b t room
-    (kept_cons tip store i within
-    ∙ ap (λ (z : Block). cond (descends tip store z) (z ∷ kept_from tip store (i + 1)) (kept_from tip store (i + 1))) is
-    ∙ ap (λ (z : Bool). cond z (b ∷ kept_from tip store (i + 1)) (kept_from tip store (i + 1))) (sym is-t))
-    (subst (λ (z : Spot). Stored tip store entries (i + 1) z.next r v) is-s before)
-    (here ∙ ap (λ (z : Spot). set v z.at b) is-s)
+  pub stored_same : descends tip store (get_or store i genesis) ≡ false → Stored tip store entries (i + 1) at r v → Stored tip store entries i at r v
+  stored_same bad before =
+      let e : kept_from tip store i ≡ kept_from tip store (i + 1) = rw (kept_cons tip store i within, bad) refl in
+      rw e before
 
 -- all entries
 pub stored_all : (tip : Block) (n : ℕ) (entries : List Block) (r : ℕ) (w : List Block) → Stored tip (take n entries) entries 0 0 r w → (r ≡ length (kept tip (take n entries))) × (w ≡ dropped tip n entries)

@@ -8,9 +8,8 @@ use lib.ListN.{length, take, set}
 use lib.Seq.{take-suc-set}
 use Rattle.codec.specs.Names.{same_bytes}
 use Rattle.codec.proofs.Order.{same_refl}
-use Rattle.blocks.specs.Store.{found, missing, find}
+use Rattle.blocks.specs.Store.{Found, found, missing, find}
 use Rattle.blocks.specs.declared.Block.{Block}
-use Rattle.blocks.specs.declared.Found.{Found}
 
 pub find_append : (x : List ℕ) (l m : List Block) → find x (l ++ m) ≡ cond (find x l).is (find x l) (find x m)
 unfolding find

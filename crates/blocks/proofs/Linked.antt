@@ -10,10 +10,9 @@ use lib.ListN.{length}
 use borrow.Author.Tests.{ltb-true}
 use Rattle.codec.specs.Names.{same_bytes}
 use Rattle.codec.proofs.Order.{same_eq}
-use Rattle.blocks.specs.Store.{found, find, held, below, descends, ancestry}
-use Rattle.blocks.specs.Steps.{onward_of}
+use Rattle.blocks.specs.Store.{Found, found, find, held, below, descends, ancestry}
+use Rattle.blocks.specs.Steps.{goes_on}
 use Rattle.blocks.specs.declared.Block.{Block}
-use Rattle.blocks.specs.declared.Found.{Found}
 use Rattle.blocks.proofs.Ancestry.{never, goes_below, descends_on, descends_off, lower, ancestry_on, ancestry_off}
 
 -- ---- what the laws say
@@ -67,12 +66,12 @@ module _ (tip : Block) (store : List Block) where
   last_tests true t e = (refl, e)
   last_tests false t e = never e
 
-  alone : (b : Block) → descends tip store b ≡ true → (onward_of tip b (held tip store b.parent)).goes ≡ false → Row b
+  alone : (b : Block) → descends tip store b ≡ true → goes_on tip b (held tip store b.parent) ≡ false → Row b
   alone b d e =
       let both = last_tests (same_bytes tip.name b.parent) (below tip b) (sym (descends_off tip store b e) ∙ d) in
       ([], (ancestry_off tip store b d e, (((sym (same_eq tip.name b.parent both.0), ltb-true tip.height.0 b.height.0 both.1), tt), tt)))
 
-  above : (b : Block) → descends tip store b ≡ true → (onward_of tip b (held tip store b.parent)).goes ≡ true → Row (held tip store b.parent).block → Row b
+  above : (b : Block) → descends tip store b ≡ true → goes_on tip b (held tip store b.parent) ≡ true → Row (held tip store b.parent).block → Row b
   above b d e r =
       let c = held tip store b.parent in
       let all = goes_below (same_bytes tip.name b.parent) c.is (below c.block b) e in
@@ -85,14 +84,14 @@ module _ (tip : Block) (store : List Block) where
       )
 
   rows : (k : ℕ) (b : Block) → b.height.0 ≤ k → descends tip store b ≡ true → Row b
-  rows zero b p d = by_test (onward_of tip b (held tip store b.parent)).goes refl
+  rows zero b p d = by_test (goes_on tip b (held tip store b.parent)) refl
     where
-      by_test : (t : Bool) → (onward_of tip b (held tip store b.parent)).goes ≡ t → Row b
+      by_test : (t : Bool) → goes_on tip b (held tip store b.parent) ≡ t → Row b
       by_test false e = alone b d e
       by_test true e = absurd (omega (arith, lower tip store b e, p))
-  rows (suc k) b p d = by_test (onward_of tip b (held tip store b.parent)).goes refl (rows k (held tip store b.parent).block)
+  rows (suc k) b p d = by_test (goes_on tip b (held tip store b.parent)) refl (rows k (held tip store b.parent).block)
     where
-      by_test : (t : Bool) → (onward_of tip b (held tip store b.parent)).goes ≡ t
+      by_test : (t : Bool) → goes_on tip b (held tip store b.parent) ≡ t
           → ((held tip store b.parent).block.height.0 ≤ k → descends tip store (held tip store b.parent).block ≡ true → Row (held tip store b.parent).block) → Row b
       by_test false e h = alone b d e
       by_test true e h = above b d e (h (omega (arith, lower tip store b e, p)) (sym (descends_on tip store b e) ∙ d))

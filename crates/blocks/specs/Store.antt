@@ -1,14 +1,18 @@
 -- The store of blocks: search, ancestry, releases, drop (01: The box, rule D; How each place should look). A store here is the list of the
 -- held entries. Everything is total: on any content, names twice included, a name means the first entry of that name. Assumes nothing.
-use Rattle.std.specs.Prelude.{ℕ, zero, suc, Bool, true, false, cond, ◌&&◌, List, [], ◌∷◌, ◌++◌, map, ltb, length, take, drop}
+use Rattle.std.specs.Prelude.{ℕ, zero, suc, Bool, true, false, cond, ◌&&◌, Option, Some, None, List, [], ◌∷◌, ◌++◌, map, ltb, length, take, drop}
 use Rattle.codec.specs.Names.{same_bytes, zero_name}
 use Rattle.wire.specs.Encode.{release_bytes, joined}
 use Rattle.blocks.specs.declared.Block.{Block}
-use Rattle.blocks.specs.declared.Found.{Found}
 
 -- genesis, the first tip: the all-zero name, height 0
 abbrev pub genesis : Block
 genesis = record { name = zero_name; parent = zero_name; height = record { 0 = 0 } }
+
+-- what is held of a name: whether there is a block, and which
+pub record Found : Type 0 where
+  pub is : Bool
+  pub block : Block
 
 abbrev pub found : Block → Found
 found b = record { is = true; block = b }
@@ -16,6 +20,11 @@ found b = record { is = true; block = b }
 -- where nothing is found, the block is genesis
 abbrev pub missing : Found
 missing = record { is = false; block = genesis }
+
+-- what a search returns, as one of these
+abbrev pub found_of : Option Block → Found
+found_of None = missing
+found_of (Some b) = found b
 
 -- the first entry of a name
 unfoldable pub find : List ℕ → List Block → Found

@@ -2,19 +2,18 @@
 // Promises: each function does what its definition in specs/Store.antt says of the first `count` entries, on any content. Of the public ones only
 // `release` asks something, that the block descends and that its records have room; the others ask of their callers here that a place lies inside
 // the store or the output, and that verdicts noted so far are true. proofs/{Filled, Ancestry, Linked, Kept}.antt have the laws.
-// Rests on `codec`, `wire` and the bits of `certificate`. Every decision is a function by value; the others move whole blocks.
+// Rests on `codec`, `wire` and the bits of `certificate`.
 #![tactic(auto)]
 
-ghost use Rattle.std.specs.Prelude.{◌≡◌, true, false, cond, ◌+◌, ◌*◌, ◌^◌, ◌<◌, ◌≤◌, ltb, length, set, get_or, take};
+ghost use Rattle.std.specs.Prelude.{◌≡◌, true, false, cond, Some, None, ◌+◌, ◌*◌, ◌≤◌, ltb, length, set, take};
 ghost use Rattle.std.proofs.lemmas.List.Edits.{sets};
 ghost use Rattle.codec.specs.Bytes.{patch};
 ghost use Rattle.codec.specs.Names.{same_bytes};
 ghost use Rattle.wire.specs.Encode.{release_bytes};
 ghost use Rattle.wire.specs.Fields.{release_length};
-ghost use Rattle.blocks.specs.Steps.{onward_of, no_verdicts, verdict_of, noted_of, shortened, Noted, kept_from, spot_of, place_of};
-ghost use Rattle.blocks.specs.Store.{genesis, found, missing, find, held, descends, ancestry, releases, kept, dropped};
+ghost use Rattle.blocks.specs.Steps.{onward_of, verdict_of, noted_of, Noted, kept_from, place_of};
+ghost use Rattle.blocks.specs.Store.{found_of, find, held, descends, ancestry, releases, kept, dropped};
 
-use certificate::safe::signs;
 use settings::{Height, View};
 use wire::Release;
 
@@ -29,52 +28,21 @@ pub struct Block {
     pub height: Height,
 }
 
-#[derive(Clone, Copy)]
-pub struct Found {
-    pub is: bool,
-    pub block: Block,
-}
-
-// What is found where nothing is: genesis stands in for the block.
-fn nothing() -> Found
-    ensures { result ≡ missing }
-{
-    let z = [0u8; 32];
-    Found {
-        is: false,
-        block: Block {
-            name: z,
-            parent: z,
-            height: Height(0),
-        },
+impl Block {
+    // Mostly the first bytes tell. A search asks it of each entry, so that a call would take the most of its time.
+    #[inline(always)]
+    fn is_named(&self, name: &[u8; 32]) -> bool
+        ensures { result ≡ same_bytes self.now.name name.now }
+    {
+        self.name[0] == name[0] && self.name == *name
     }
 }
 
-// The block b if it has the name, and otherwise what was found before.
-fn pick(b: Block, name: [u8; 32], before: Found) -> Found
-    ensures { result ≡ cond (same_bytes b.name name) (found b) before }
+// The entries that are held.
+fn entries(store: &[Block], count: usize) -> &[Block]
+    ensures { result.now ≡ take count store.now }
 {
-    let n = b.name;
-    if codec::name::same(n, name) {
-        return Found { is: true, block: b };
-    }
-    before
-}
-
-fn lesser(a: usize, b: usize) -> usize
-    ensures { result ≡ cond (ltb a b) a b }
-{
-    if a < b {
-        return a;
-    }
-    b
-}
-
-fn entry(store: &[Block], i: usize) -> Block
-    requires { i < length store.now }
-    ensures { result ≡ get_or store.now i genesis }
-{
-    store[i]
+    &store[..count.min(store.len())]
 }
 
 // Past the end it does nothing, as `set`.
@@ -86,212 +54,103 @@ pub fn fill(store: &mut [Block], at: usize, b: Block)
     }
 }
 
-fn name_of(store: &[Block], i: usize) -> [u8; 32]
-    requires { i < length store.now }
-    ensures { result ≡ (get_or store.now i genesis).name }
+// The place of the first entry of a name.
+fn place(entries: &[Block], name: [u8; 32]) -> Option<usize>
+    ensures { result ≡ cond (ltb (place_of name entries.now) (length entries.now)) (Some (place_of name entries.now)) None }
 {
-    let b = entry(store, i);
-    b.name
+    entries.iter().position(|b| b.is_named(&name))
 }
 
-// Place i, if the name x that stands there is the one looked for, and otherwise the place found before. Mostly the first bytes tell.
-fn earlier(x: [u8; 32], name: [u8; 32], i: usize, before: usize) -> usize
-    ensures { result ≡ cond (same_bytes x name) i before }
+pub fn search(store: &[Block], count: usize, name: [u8; 32]) -> Option<Block>
+    ensures { found_of result ≡ find name (take count store.now) }
 {
-    if x[0] != name[0] {
-        return before;
-    }
-    if codec::name::same(x, name) {
-        return i;
-    }
-    before
-}
-
-// The one loop over the store: the place of the first entry of the name, or n. It begins at the last entry, so that the first of the name is what stays.
-fn scan(store: &[Block], n: usize, name: [u8; 32]) -> usize
-    requires { n ≤ length store.now }
-    ensures { result ≡ place_of name (take n store.now) }
-{
-    let mut at = n;
-    let mut i = n;
-    while 0 < i {
-        i -= 1;
-        let x = name_of(store, i);
-        at = earlier(x, name, i, at);
-    }
-    at
-}
-
-fn present(b: Block) -> Found
-    ensures { result ≡ found b }
-{
-    Found { is: true, block: b }
-}
-
-// What stands at a place among the first n.
-fn found_at(store: &[Block], at: usize, n: usize) -> Found
-    requires { n ≤ length store.now }
-    ensures { result ≡ cond (ltb at n) (found (get_or store.now at genesis)) missing }
-{
-    if at < n {
-        let b = entry(store, at);
-        present(b)
-    } else {
-        nothing()
-    }
-}
-
-pub fn search(store: &[Block], count: usize, name: [u8; 32]) -> Found
-    ensures { result ≡ find name (take count store.now) }
-{
-    let n = lesser(count, store.len());
-    let at = scan(store, n, name);
-    found_at(store, at, n)
+    let held = entries(store, count);
+    let at = place(held, name)?;
+    Some(held[at])
 }
 
 // The tip first, and then the entries.
-pub fn held(store: &[Block], count: usize, tip: Block, name: [u8; 32]) -> Found
-    ensures { result ≡ held tip (take count store.now) name }
+pub fn held(store: &[Block], count: usize, tip: Block, name: [u8; 32]) -> Option<Block>
+    ensures { found_of result ≡ held tip (take count store.now) name }
 {
-    let s = search(store, count, name);
-    pick(tip, name, s)
+    if tip.is_named(&name) {
+        return Some(tip);
+    }
+    search(store, count, name)
 }
 
-// One step of the walk from parent to parent: whether it goes on, and at which block; and where it does not, whether it ends well.
+// One step of the walk from parent to parent: it goes on at the entry at a place, or it ends, well or not.
 #[derive(Clone, Copy)]
-struct Onward {
-    goes: bool,
-    ends: bool,
-    block: Block,
+enum Onward {
+    On(usize),
+    Ends(bool),
 }
 
-// Every decision of the walk, by value. c is what is held of the name of b's parent.
-fn step(tip: Block, b: Block, c: Found) -> Onward
-    ensures { result ≡ onward_of tip b c }
+// Every decision of the walk.
+fn step(held: &[Block], tip: Block, b: Block) -> Onward
+    ensures { result ≡ onward_of tip held.now b }
 {
-    let n = tip.name;
-    let p = b.parent;
-    let d = c.block;
-    if codec::name::same(n, p) {
-        return Onward {
-            goes: false,
-            ends: tip.height.0 < b.height.0,
-            block: d,
-        };
+    if tip.is_named(&b.parent) {
+        return Onward::Ends(tip.height < b.height);
     }
-    if c.is {
-        return Onward {
-            goes: d.height.0 < b.height.0,
-            ends: false,
-            block: d,
-        };
-    }
-    Onward {
-        goes: false,
-        ends: false,
-        block: d,
+    match place(held, b.parent) {
+        Some(at) if held[at].height < b.height => Onward::On(at),
+        _ => Onward::Ends(false),
     }
 }
 
 // The heights fall, so that it ends on any content.
+fn leads(held: &[Block], tip: Block, b: Block) -> bool
+    ensures { result ≡ descends tip held.now b }
+{
+    let mut block = b;
+    'down: loop {
+        match step(held, tip, block) {
+            Onward::On(at) => block = held[at],
+            Onward::Ends(well) => return well,
+        }
+    }
+}
+
 pub fn descends(store: &[Block], count: usize, tip: Block, b: Block) -> bool
     ensures { result ≡ descends tip (take count store.now) b }
 {
-    let p = b.parent;
-    let c = held(store, count, tip, p);
-    let s = step(tip, b, c);
-    if s.goes {
-        let d = s.block;
-        descends(store, count, tip, d)
-    } else {
-        s.ends
-    }
+    leads(entries(store, count), tip, b)
 }
 
 // Which of the entries judged so far descend, of as many as are held: a bit for each.
 #[derive(Clone, Copy)]
-struct Verdicts {
-    low: u64,
-    high: u64,
+struct Verdicts(u128);
+
+impl Verdicts {
+    fn of(self, at: usize) -> bool
+        ensures { result ≡ verdict_of self at }
+    {
+        at < STORE_LENGTH && (self.0 >> at) % 2 == 1
+    }
+
+    // Entry i was judged, and descends.
+    fn noted(self, i: usize) -> Verdicts
+        requires { verdict_of self i ≡ false }
+        ensures { result ≡ noted_of self i true }
+    {
+        if i < STORE_LENGTH {
+            return Verdicts(self.0 + (1u128 << i));
+        }
+        self
+    }
 }
 
-fn no_verdicts() -> Verdicts
-    ensures { result ≡ no_verdicts }
+// Whether b descends, in one scan of the store where b's parent was judged before: v has the verdicts of the entries before place i, and where the
+// walk would go on at one of them, it ends as that one does.
+fn judged(held: &[Block], tip: Block, b: Block, i: usize, v: Verdicts) -> bool
+    requires { Noted tip held.now i v }
+    ensures { result ≡ descends tip held.now b }
 {
-    Verdicts { low: 0, high: 0 }
-}
-
-fn verdict(v: Verdicts, at: usize) -> bool
-    ensures { result ≡ verdict_of v at }
-{
-    if at < 64 {
-        return signs(v.low, at as u64);
-    }
-    if at < STORE_LENGTH {
-        return signs(v.high, (at - 64) as u64);
-    }
-    false
-}
-
-// Entry i was judged.
-fn noted(v: Verdicts, i: usize, good: bool) -> Verdicts
-    requires { verdict_of v i ≡ false }
-    ensures { result ≡ noted_of v i good }
-{
-    if !good {
-        return v;
-    }
-    if i < 64 {
-        return Verdicts {
-            low: v.low + (1u64 << i),
-            high: v.high,
-        };
-    }
-    if i < STORE_LENGTH {
-        return Verdicts {
-            low: v.low,
-            high: v.high + (1u64 << (i - 64)),
-        };
-    }
-    v
-}
-
-// The step from b, where v has the verdicts of the entries before place i, and b's parent stands at place `at`: where it would go on at an entry with
-// a verdict, it ends as that one does.
-fn step_judged(tip: Block, b: Block, c: Found, at: usize, i: usize, v: Verdicts) -> Onward
-    ensures { result ≡ shortened at i v (onward_of tip b c) }
-{
-    let s = step(tip, b, c);
-    let d = s.block;
-    if !s.goes {
-        return s;
-    }
-    if at < lesser(i, STORE_LENGTH) {
-        return Onward {
-            goes: false,
-            ends: verdict(v, at),
-            block: d,
-        };
-    }
-    s
-}
-
-// Whether b descends, as `descends` says it, in one scan of the store where b's parent was judged before.
-fn judged(store: &[Block], count: usize, tip: Block, b: Block, i: usize, v: Verdicts) -> bool
-    requires { Noted tip (take count store.now) i v }
-    ensures { result ≡ descends tip (take count store.now) b }
-{
-    let p = b.parent;
-    let n = lesser(count, store.len());
-    let at = scan(store, n, p);
-    let f = found_at(store, at, n);
-    let c = pick(tip, p, f);
-    let s = step_judged(tip, b, c, at, i, v);
-    if s.goes {
-        let d = s.block;
-        descends(store, count, tip, d)
-    } else {
-        s.ends
+    match step(held, tip, b) {
+        Onward::On(at) if at < i && at < STORE_LENGTH => v.of(at),
+        Onward::On(at) => leads(held, tip, held[at]),
+        Onward::Ends(well) => well,
     }
 }
 
@@ -301,15 +160,18 @@ fn put_one(out: &mut [u8], at: usize, sender: u16, view: View, b: Block) -> usiz
     ensures { (result ≡ at + release_length) × (out.new ≡ patch out.old at (release_bytes sender view.0 b.name b.height.0)) }
 {
     let name = b.name;
-    let height = b.height;
-    wire::write::put_release(out, at, sender, Release { view, name, height });
+    let release = Release {
+        view,
+        name,
+        height: b.height,
+    };
+    wire::write::put_release(out, at, sender, release);
     at + wire::length::RELEASE
 }
 
 // What lies below b is written first. Beside what `release` says, a record of each block has 56 bytes.
 fn put_line(
-    store: &[Block],
-    count: usize,
+    held: &[Block],
     tip: Block,
     b: Block,
     sender: u16,
@@ -317,21 +179,16 @@ fn put_line(
     out: &mut [u8],
     at: usize,
 ) -> usize
-    requires { (descends tip (take count store.now) b ≡ true) × (at + release_length * length (ancestry tip (take count store.now) b) ≤ length out.old) }
-    ensures { (result ≡ at + release_length * length (ancestry tip (take count store.now) b))
-        × ((length (releases sender view.0 (ancestry tip (take count store.now) b)) ≡ release_length * length (ancestry tip (take count store.now) b))
-        × (out.new ≡ patch out.old at (releases sender view.0 (ancestry tip (take count store.now) b)))) }
+    requires { (descends tip held.now b ≡ true) × (at + release_length * length (ancestry tip held.now b) ≤ length out.old) }
+    ensures { (result ≡ at + release_length * length (ancestry tip held.now b))
+        × ((length (releases sender view.0 (ancestry tip held.now b)) ≡ release_length * length (ancestry tip held.now b))
+        × (out.new ≡ patch out.old at (releases sender view.0 (ancestry tip held.now b)))) }
 {
-    let p = b.parent;
-    let c = held(store, count, tip, p);
-    let s = step(tip, b, c);
-    if s.goes {
-        let d = s.block;
-        let k = put_line(store, count, tip, d, sender, view, out, at);
-        put_one(out, k, sender, view, b)
-    } else {
-        put_one(out, at, sender, view, b)
-    }
+    let below = match step(held, tip, b) {
+        Onward::On(at_parent) => put_line(held, tip, held[at_parent], sender, view, out, at),
+        Onward::Ends(_) => at,
+    };
+    put_one(out, below, sender, view, b)
 }
 
 pub fn release(
@@ -349,55 +206,34 @@ pub fn release(
         × ((length (releases sender view.0 (ancestry tip (take count store.now) b)) ≡ release_length * length (ancestry tip (take count store.now) b))
         × (out.new ≡ patch out.old at (releases sender view.0 (ancestry tip (take count store.now) b)))) }
 {
-    put_line(store, count, tip, b, sender, view, out, at)
+    put_line(entries(store, count), tip, b, sender, view, out, at)
 }
 
-// Where an entry that was looked at is stored, and the place of the next one.
-#[derive(Clone, Copy)]
-struct Spot {
-    at: usize,
-    next: usize,
-}
-
-// An entry that is not kept is stored past every end, which does nothing.
-fn place_of(keep: bool, at: usize) -> Spot
-    requires { at + 1 < 2 ^ 64 }
-    ensures { result ≡ spot_of keep at }
-{
-    if keep {
-        return Spot { at, next: at + 1 };
-    }
-    Spot {
-        at: 0xffff_ffff_ffff_ffff,
-        next: at,
-    }
-}
-
-// The `left` entries from place i on. Every one is judged before any is stored, so that each walk goes over the store as it was; and what lies
-// behind an entry is stored before it, at places behind its own. v has the verdicts of the entries before place i.
+// The entries from place i on. Every one is judged before any is stored, so that each walk goes over the store as it was; and what lies behind an
+// entry is stored before it, at places behind its own. v has the verdicts of the entries before place i.
 fn keep_from(
     store: &mut [Block],
     count: usize,
     tip: Block,
     i: usize,
-    left: usize,
     at: usize,
     v: Verdicts,
 ) -> usize
-    requires { (i + left ≡ length (take count store.old)) × ((at ≤ i) × Noted tip (take count store.old) i v) }
+    requires { (i ≤ length (take count store.old)) × ((at ≤ i) × Noted tip (take count store.old) i v) }
     ensures { (result ≡ at + length (kept_from tip (take count store.old) i))
         × (store.new ≡ sets store.old at (kept_from tip (take count store.old) i)) }
 {
-    if 0 < left {
-        let b = entry(store, i);
-        let d = judged(store, count, tip, b, i, v);
-        let s = place_of(d, at);
-        let w = noted(v, i, d);
-        let r = keep_from(store, count, tip, i + 1, left - 1, s.next, w);
-        fill(store, s.at, b);
-        r
+    let held = entries(store, count);
+    if held.len() <= i {
+        return at;
+    }
+    let b = held[i];
+    if judged(held, tip, b, i, v) {
+        let end = keep_from(store, count, tip, i + 1, at + 1, v.noted(i));
+        store[at] = b;
+        end
     } else {
-        at
+        keep_from(store, count, tip, i + 1, at, v)
     }
 }
 
@@ -405,7 +241,5 @@ fn keep_from(
 pub fn drop_others(store: &mut [Block], count: usize, tip: Block) -> usize
     ensures { (result ≡ length (kept tip (take count store.old))) × (store.new ≡ dropped tip count store.old) }
 {
-    let n = lesser(count, store.len());
-    let none = no_verdicts();
-    keep_from(store, count, tip, 0, n, 0, none)
+    keep_from(store, count, tip, 0, 0, Verdicts(0))
 }

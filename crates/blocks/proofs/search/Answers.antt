@@ -1,17 +1,14 @@
--- What stands at the place that the scan finds.
-use mathlib.Core.Path.{◌∙◌, ap}
-use Prim.Native.Nat.{ℕ, ◌≤◌}
-use mathlib.Core.Bool.{cond}
-use lib.Dec.{ltb}
-use lib.ListN.{length, take, get_or}
-use Rattle.blocks.specs.Store.{genesis, found, missing, find}
-use Rattle.blocks.proofs.Finding.{placed, take_lesser, lesser_most}
+-- What stands at the place.
+use mathlib.Core.Path.{sym, ap, ◌∙◌}
+use Rattle.std.proofs.lemmas.List.{get_or_default}
+use Rattle.blocks.specs.Store.{genesis, found}
+use Rattle.blocks.proofs.Finding.{place_some, place_none}
 use Rattle.blocks.proofs.search.Goals as goal
+
+pub returns-in_err-at : goal.returns-in_err-at
+returns-in_err-at c = rw (c.from_residual.ensures, ← c.entries-held.ensures) (sym (place_none _ _ (rw c.in_err-at.was at c.place.ensures)))
 
 pub returns : goal.returns
 returns c =
-    let l = c.args.store.now in
-    let n = c.lesser-n.result in
-    let most : n ≤ length l = rw c.lesser-n.ensures (lesser_most _ _) in
-    c.found_at.ensures ∙ ap (λ (p : ℕ). cond (ltb p n) (found (get_or l p genesis)) missing) c.scan-at.ensures ∙ placed _ l n most ∙ ap (λ (k : ℕ). find c.args.name (take k l)) c.lesser-n.ensures
-    ∙ ap (find c.args.name) (take_lesser c.args.count l)
+    let e = place_some _ _ c.in_ok-at.at (rw c.in_ok-at.was at c.place.ensures) in
+    ap found (get_or_default _ c.in_ok-at.at _ genesis e.0) ∙ rw (← c.entries-held.ensures) (sym e.1.1)
