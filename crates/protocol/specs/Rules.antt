@@ -4,12 +4,11 @@ use Rattle.settings.specs.Quorum.{block_quorum, timeout_quorum, slow_quorum, fas
 use Rattle.wire.specs.Encode.{block_certificate_bytes}
 use Rattle.certificate.specs.Rank.{block_certificate, outranks}
 use Rattle.blocks.specs.Store.{descends}
-use Rattle.memory.specs.declared.decided.Choice.{Choice}
 use Rattle.memory.specs.declared.decided.Quorums.{Quorums}
 use Rattle.memory.specs.Layout.{vote_row, timeout_row}
 use Rattle.memory.specs.Kept.{kept_count, tally}
 use Rattle.memory.specs.Window.{lowest, highest}
-use Rattle.memory.specs.Decided.{no_choice, next_decided}
+use Rattle.memory.specs.Decided.{Choice, no_choice, next_decided}
 use Rattle.memory.specs.Formed.{formed}
 use Rattle.counters.specs.Counters.{locks_of}
 use Rattle.protocol.specs.Work.{Work, view, settings, n, own, view_now, timed, tip, blocks, held_block, send_timeout, release}

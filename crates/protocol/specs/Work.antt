@@ -11,8 +11,7 @@ use Rattle.wire.specs.Encode.{vote_bytes, timeout_bytes}
 use Rattle.certificate.specs.declared.Certificate.{Certificate}
 use Rattle.certificate.specs.Rank.{highest}
 use Rattle.blocks.specs.declared.Block.{Block}
-use Rattle.blocks.specs.declared.Found.{Found}
-use Rattle.blocks.specs.Store.{held, ancestry, releases, kept, dropped}
+use Rattle.blocks.specs.Store.{Found, held, ancestry, releases, kept, dropped}
 use Rattle.memory.specs.Layout.{vote_row, commit_row, timeout_row, settings_of, own_of, block_count_of, with_block_count, with_entry}
 use Rattle.memory.specs.Kept.{keep}
 use Rattle.memory.specs.Window.{entered}

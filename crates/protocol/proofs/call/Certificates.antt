@@ -23,11 +23,10 @@ use Rattle.wire.proofs.Rows.{bytes_le_bytes, Field, num, FieldFits, Reads, writt
 use Rattle.wire.proofs.Tables.{stands_encode, bytes_encode}
 use Rattle.certificate.specs.Safe.{safe_certificate}
 use Rattle.certificate.proofs.Timeouts.{count_timeouts}
-use Rattle.memory.specs.declared.decided.Choice.{Choice}
 use Rattle.memory.specs.declared.decided.Quorums.{Quorums}
 use Rattle.memory.specs.Layout.{memory_length, row_size, vote_row, commit_row, timeout_row}
 use Rattle.memory.specs.Kept.{has, kept, gathered, tally}
-use Rattle.memory.specs.Decided.{next_decided}
+use Rattle.memory.specs.Decided.{Choice, next_decided}
 use Rattle.memory.specs.Formed.{formed}
 use Rattle.memory.proofs.Apart.{row_fits, votes, commits, timeouts}
 use Rattle.memory.proofs.Choosing.{Entry, next_candidate}

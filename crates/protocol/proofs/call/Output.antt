@@ -19,10 +19,9 @@ use Rattle.blocks.proofs.Dropping.{held_within}
 use Rattle.blocks.proofs.Kept.{dropped_held}
 use Rattle.blocks.proofs.Linked.{In, AllIn, ancestry_last}
 use Rattle.blocks.proofs.Fewer.{kept_within, held_entry, released_fewer}
-use Rattle.memory.specs.declared.decided.Choice.{Choice}
 use Rattle.memory.specs.Layout.{entry_room, ballot_rows, timeout_rows, block_count_of, with_block_count}
 use Rattle.memory.specs.Window.{lowest}
-use Rattle.memory.specs.Decided.{no_choice, next_decided}
+use Rattle.memory.specs.Decided.{Choice, no_choice, next_decided}
 use Rattle.memory.proofs.Header.{count_put}
 use Rattle.protocol.specs.Work.{Work, own, view_now, tip, blocks, held_block, release}
 use Rattle.protocol.specs.Typed.{BlockTyped}

@@ -21,8 +21,7 @@ use Rattle.wire.proofs.Facts.{Framed}
 use Rattle.wire.proofs.Frames.{or_false}
 use Rattle.certificate.specs.Safe.{safe_certificate}
 use Rattle.blocks.specs.declared.Block.{Block}
-use Rattle.blocks.specs.declared.Found.{Found}
-use Rattle.blocks.specs.Store.{found, find, held}
+use Rattle.blocks.specs.Store.{Found, found, find, held}
 use Rattle.memory.specs.Layout.{block_count_of}
 use Rattle.memory.proofs.Apart.{votes, commits, timeouts}
 use Rattle.memory.proofs.Entering.{Windowed}

@@ -13,9 +13,8 @@ use Rattle.settings.specs.Quorum.{last_height}
 use Rattle.codec.specs.Names.{same_bytes, zero_name}
 use Rattle.codec.proofs.Order.{same_eq, eq_same, same_ne, ne_same, same_refl}
 use Rattle.blocks.specs.declared.Block.{Block}
-use Rattle.blocks.specs.declared.Found.{Found}
-use Rattle.blocks.specs.Store.{found, find, held, below, descends, ancestry, kept}
-use Rattle.blocks.specs.Steps.{onward_of}
+use Rattle.blocks.specs.Store.{Found, found, find, held, below, descends, ancestry, kept}
+use Rattle.blocks.specs.Steps.{goes_on}
 use Rattle.blocks.proofs.Ancestry.{never, goes_below, descends_on, descends_off, lower, ancestry_on, ancestry_off}
 use Rattle.blocks.proofs.Linked.{In, AllIn, all_more, find_in, held_in, last_tests, ancestry_last}
 use Rattle.blocks.proofs.Filled.{find_append}
@@ -159,9 +158,9 @@ module _ (set : Settings) (w : History) where
 
     from_tip_step : (b : Block) → In b store → descends tip store b ≡ true
         → (let c = (held tip store b.parent).block in c.height.0 < b.height.0 → In c store → descends tip store c ≡ true → FromTip c) → FromTip b
-    from_tip_step b p d rest = go (onward_of tip b (held tip store b.parent)).goes refl
+    from_tip_step b p d rest = go (goes_on tip b (held tip store b.parent)) refl
       where
-        go : (t : Bool) → (onward_of tip b (held tip store b.parent)).goes ≡ t → FromTip b
+        go : (t : Bool) → goes_on tip b (held tip store b.parent) ≡ t → FromTip b
         go false e =
             let both = last_tests tip store (same_bytes tip.name b.parent) (below tip b) (sym (descends_off tip store b e) ∙ d) in
             let on_tip : b.parent ≡ tip.name = sym (same_eq tip.name b.parent both.0) in
@@ -229,9 +228,9 @@ module _ (set : Settings) (w : History) where
       single_rest x y i j e = C.single x y (in_rest x i).0 (in_rest y j).0 e
 
       parent_rest : (c : Block) → In c store → descends b store c ≡ true → ParentHeld set w b rest c
-      parent_rest c i e = go (onward_of b c (held b store c.parent)).goes refl
+      parent_rest c i e = go (goes_on b c (held b store c.parent)) refl
         where
-          go : (t : Bool) → (onward_of b c (held b store c.parent)).goes ≡ t → ParentHeld set w b rest c
+          go : (t : Bool) → goes_on b c (held b store c.parent) ≡ t → ParentHeld set w b rest c
           go false f =
               let both = last_tests b store (same_bytes b.name c.parent) (below b c) (sym (descends_off b store c f) ∙ e) in
               let on : b.name ≡ c.parent = same_eq b.name c.parent both.0 in
@@ -284,7 +283,7 @@ module _ (set : Settings) (w : History) where
             let i = find-name store b.parent c f in
             let s : same_bytes tip.name b.parent ≡ false = ne_same tip.name b.parent (λ e. C.tip_apart c i.0 (i.1 ∙ sym e)) in
             let is : held tip store b.parent ≡ found c = rw s f in
-            let goes : (onward_of tip b (held tip store b.parent)).goes ≡ true = rw (is, s) (lt-ltb c.height.0 b.height.0 (omega (arith, h))) in
+            let goes : goes_on tip b (held tip store b.parent) ≡ true = rw (is, s) (lt-ltb c.height.0 b.height.0 (omega (arith, h))) in
             descends_on tip store b goes ∙ rw is (rest c (omega (arith, h)) i.0)
 
     leads_all : (k : ℕ) (b : Block) → b.height.0 ≤ k → In b store → descends tip store b ≡ true

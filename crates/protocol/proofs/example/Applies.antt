@@ -15,7 +15,7 @@ use Rattle.codec.proofs.Order.{and_true, same_refl, same_eq, less_irrefl, ne_sam
 use Rattle.certificate.specs.Rank.{block_certificate, outranks}
 use Rattle.blocks.specs.declared.Block.{Block}
 use Rattle.blocks.specs.Store.{found, missing, find, held, descends}
-use Rattle.memory.specs.declared.kept.Tally.{Tally}
+use Rattle.certificate.specs.declared.Tally.{Tally}
 use Rattle.memory.specs.Layout.{vote_row, commit_row, timeout_row, settings_of}
 use Rattle.memory.specs.Kept.{has, kept, kept_count, backs, tally}
 use Rattle.memory.specs.Window.{in_ballot_window, in_timeout_window}

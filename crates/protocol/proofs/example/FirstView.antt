@@ -17,8 +17,7 @@ use Rattle.wire.specs.Fit.{IsName, CertificateFits}
 use Rattle.certificate.specs.Rank.{outranks, adopted}
 use Rattle.certificate.specs.Safe.{safe_certificate}
 use Rattle.blocks.specs.declared.Block.{Block}
-use Rattle.blocks.specs.declared.Found.{Found}
-use Rattle.blocks.specs.Store.{genesis, found, find, held, leads, descends, line, ancestry, releases, only, kept}
+use Rattle.blocks.specs.Store.{Found, genesis, found, find, held, leads, descends, line, ancestry, releases, only, kept}
 use Rattle.memory.specs.Layout.{vote_row, commit_row, own_of, block_count_of, with_block_count, with_entry}
 use Rattle.memory.specs.Kept.{keep}
 use Rattle.memory.specs.Window.{entered}

@@ -15,7 +15,7 @@ use Rattle.codec.specs.Bytes.{part}
 use Rattle.codec.specs.Names.{name_length}
 use Rattle.codec.proofs.Order.{and_true, which}
 use Rattle.certificate.specs.declared.Certificate.{Certificate}
-use Rattle.memory.specs.declared.kept.Tally.{Tally}
+use Rattle.certificate.specs.declared.Tally.{Tally}
 use Rattle.memory.specs.Layout.{entry_room, memory_length, row_size, votes_place, with_entry, vote_row, timeout_row}
 use Rattle.memory.specs.Kept.{has, kept_count, backs, tally}
 use Rattle.memory.specs.Window.{lowest, highest, in_ballot_window, in_timeout_window, entered}

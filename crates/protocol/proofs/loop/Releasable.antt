@@ -12,11 +12,10 @@ use Rattle.settings.specs.Quorum.{fast_quorum, slow_quorum}
 use Rattle.codec.specs.Names.{name_length, less_bytes}
 use Rattle.codec.proofs.Order.{and_true, less_irrefl, less_trans, less_total}
 use Rattle.blocks.specs.Store.{descends}
-use Rattle.memory.specs.declared.decided.Choice.{Choice}
 use Rattle.memory.specs.declared.decided.Quorums.{Quorums}
 use Rattle.memory.specs.Layout.{vote_row, commit_row}
 use Rattle.memory.specs.Kept.{has, kept}
-use Rattle.memory.specs.Decided.{no_choice, above, decided, next_decided}
+use Rattle.memory.specs.Decided.{Choice, no_choice, above, decided, next_decided}
 use Rattle.memory.proofs.Bits.{counted, counted_le}
 use Rattle.memory.proofs.Choosing.{Entry, Candidate, next_least, next_candidate, next_none}
 use Rattle.protocol.specs.Work.{Work, settings, n, tip, blocks, held_block}

@@ -15,12 +15,11 @@ use Rattle.codec.proofs.Order.{and_true, which, less_total}
 use Rattle.certificate.specs.declared.Certificate.{Certificate}
 use Rattle.certificate.specs.Rank.{block_certificate, outranks}
 use Rattle.certificate.proofs.Order.{outranks_trans}
-use Rattle.memory.specs.declared.kept.Tally.{Tally}
-use Rattle.memory.specs.declared.decided.Choice.{Choice}
+use Rattle.certificate.specs.declared.Tally.{Tally}
 use Rattle.memory.specs.Layout.{vote_row, commit_row}
 use Rattle.memory.specs.Kept.{tally}
 use Rattle.memory.specs.Window.{lowest, highest}
-use Rattle.memory.specs.Decided.{no_choice, decided, next_decided}
+use Rattle.memory.specs.Decided.{Choice, no_choice, decided, next_decided}
 use Rattle.memory.specs.Decided
 use Rattle.memory.proofs.Apart.{votes, row_fits}
 use Rattle.memory.proofs.Rows.{tally-count, tally-signers}

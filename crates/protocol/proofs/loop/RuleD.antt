@@ -14,8 +14,8 @@ use Rattle.blocks.specs.Store.{kept, dropped}
 use Rattle.blocks.proofs.Kept.{dropped_held}
 use Rattle.blocks.proofs.Linked.{In}
 use Rattle.blocks.proofs.Fewer.{descends_higher, held_entry, kept_fewer}
-use Rattle.memory.specs.declared.decided.Choice.{Choice}
 use Rattle.memory.specs.Layout.{block_count_of}
+use Rattle.memory.specs.Decided.{Choice}
 use Rattle.memory.specs.Window.{lowest, highest}
 use Rattle.memory.proofs.Apart.{row_of, size_of, row_head}
 use Rattle.memory.proofs.Header.{count_behind, count_put, count_settings}
