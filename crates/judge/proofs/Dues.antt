@@ -10,7 +10,7 @@ use lib.Dec.{eqb, ltb}
 use lib.ListN.{take, drop}
 use Rattle.settings.specs.Answer.{Rule, ◌⇒◌}
 use Rattle.settings.specs.Quorum.{last_height}
-use Rattle.blocks.specs.declared.Found.{Found}
+use Rattle.blocks.specs.Store.{Found}
 use Rattle.codec.specs.Names.{same_bytes}
 use Rattle.codec.proofs.Order.{and_true}
 use Rattle.digest.specs.Name.{name_of, too_long}
@@ -27,8 +27,7 @@ use Rattle.protocol.proofs.Branch.{by_kind}
 use Rattle.refusals.specs.Number.{first_of, or_else, numbered}
 use Rattle.refusals.specs.Early.{proposal_first, early_propose}
 use Rattle.refusals.proofs.Numbers.{passes, first_then, numbered_then}
-use Rattle.judge.specs.declared.Want.{Want}
-use Rattle.judge.specs.Want.{nothing, names, safe_block}
+use Rattle.judge.specs.Want.{Wanted, nothing, names, safe_block}
 use Rattle.judge.specs.Late.{looked_up, late_first}
 use Rattle.judge.specs.Contents.{behind, digest_number, digest_due, record_due, propose_want_with, propose_due}
 use Rattle.judge.proofs.Lates.{propose_first_number}
@@ -168,7 +167,7 @@ module _ (W : Work) (room : ℕ) (x s : List ℕ) where
   propose_placed = places (region_rules W room) _ (propose_rules W by_list x) s _ (regions_numbered W room) propose_digest
 
   -- with what was wanted, and what the store holds of it
-  abbrev due_of : Want → ℕ
+  abbrev due_of : Wanted → ℕ
   due_of w = propose_due x w (looked_up W w w.name) (looked_up W w w.base) s
 
   -- no rule but that of the length has the number 16
@@ -184,7 +183,7 @@ module _ (W : Work) (room : ℕ) (x s : List ℕ) where
   unfolding propose_due
   refused_due k e h = rw (e, ne_eqb k 0 h)
 
-  abbrev wanted : Want
+  abbrev wanted : Wanted
   wanted = propose_want_with W room x s
 
   long_due : 16 ≡ due_of (nothing 16)

@@ -12,7 +12,7 @@ use Rattle.codec.specs.Names.{same_bytes}
 use Rattle.codec.proofs.Order.{same_refl, same_eq}
 use Rattle.wire.specs.Fields.{kind_of}
 use Rattle.wire.specs.Content.{by_block, by_timeouts, Content, vote, commit, certificate, timeout, proposal, block, release, certificate_of, content}
-use Rattle.blocks.specs.declared.Found.{Found}
+use Rattle.blocks.specs.Store.{Found}
 use Rattle.memory.specs.Layout.{entry_of}
 use Rattle.memory.specs.Leaders.{by_list}
 use Rattle.protocol.specs.Work.{Work, held_block}
@@ -20,12 +20,11 @@ use Rattle.protocol.specs.Refusals.{safe_name, child, misplaced, refusals, propo
 use Rattle.protocol.proofs.Branch.{by_kind}
 use Rattle.refusals.specs.Number.{first_of, numbered}
 use Rattle.refusals.specs.Early.{voted_rules, proposal_first, proposal_rules, early_rules, early_propose}
-use Rattle.judge.specs.declared.Want.{Want}
-use Rattle.judge.specs.Want.{names, safe_block, asked}
+use Rattle.judge.specs.Want.{Wanted, names, safe_block, asked}
 use Rattle.judge.specs.Late.{child_of, same_found, misplaced_on, store_full, chain_rules, late_rules, late_first, late_propose}
 
 -- a record of another kind than 7 and 8 asks nothing of the store
-pub late_none : (w : Want) (found under : Found) (r : List ℕ) → (kind_of r ≡ 7 → ⊥) → (kind_of r ≡ 8 → ⊥) → 0 ≡ first_of (late_rules w found under (content r))
+pub late_none : (w : Wanted) (found under : Found) (r : List ℕ) → (kind_of r ≡ 7 → ⊥) → (kind_of r ≡ 8 → ⊥) → 0 ≡ first_of (late_rules w found under (content r))
 unfolding late_rules first_of
 late_none w found under r k7 k8 =
     by_kind (λ q. 0 ≡ first_of (late_rules w found under q)) r (λ j v x. refl) (λ j v x. refl) (λ t. refl) (λ j k. refl) (λ e j v x y h k. absurd (k7 e)) (λ e j x y h. absurd (k8 e)) (λ e j v x h. refl)
@@ -131,7 +130,7 @@ module _ (W : Work) where
   unfolding propose_rules early_propose numbered
   propose_numbered x = (refl, refl)
 
-pub late_numbered : (w : Want) (found under : Found) (k : Content) → numbered (late_rules w found under k) ≡ true
+pub late_numbered : (w : Wanted) (found under : Found) (k : Content) → numbered (late_rules w found under k) ≡ true
 unfolding late_rules chain_rules numbered
 late_numbered w found under (vote j v x) = refl
 late_numbered w found under (commit j v x) = refl
@@ -145,6 +144,6 @@ pub late_first-numbered : (found under : Found) → numbered (late_first found u
 unfolding late_first numbered
 late_first-numbered found under = refl
 
-pub late_propose-numbered : (w : Want) (found under : Found) → numbered (late_propose w found under) ≡ true
+pub late_propose-numbered : (w : Wanted) (found under : Found) → numbered (late_propose w found under) ≡ true
 unfolding late_propose late_first numbered
 late_propose-numbered w found under = refl

@@ -17,8 +17,11 @@ use Rattle.protocol.proofs.Branch.{by_kind}
 use Rattle.refusals.specs.Number.{first_of, numbered}
 use Rattle.refusals.specs.Early.{lent, early_rules, proposal_first, proposal_rules, voted_rules, early_propose}
 use Rattle.refusals.proofs.Numbers.{skip, hit, first_then, else_some, else_none}
+use Rattle.std.specs.Prelude.{Result, Ok, Err}
+use Rattle.settings.specs.declared.refusal.Refusal.{Refusal}
+use Rattle.settings.specs.Refusal.{refused}
 use Rattle.judge.specs.declared.Want.{Want}
-use Rattle.judge.specs.Want.{nothing, names, safe_block, asked, want_of, record_want, propose_want}
+use Rattle.judge.specs.Want.{Wanted, nothing, accepted, wanted, names, safe_block, asked, want_of, record_want, propose_want}
 use Rattle.judge.specs.Contents.{propose_want_with}
 use Rattle.digest.specs.Name.{too_long}
 use Rattle.protocol.specs.Contents.{given, too_long_rule}
@@ -51,12 +54,21 @@ unfolding asked
 asked_none m r k7 k8 =
     by_kind (λ q. nothing 0 ≡ asked m q) r (λ j v x. refl) (λ j v x. refl) (λ t. refl) (λ j k. refl) (λ e j v x y h k. absurd (k7 e)) (λ e j x y h. absurd (k8 e)) (λ e j v x h. refl)
 
+-- ---- what `?` passes on, and what is wanted behind it
+pub wanted_err : {A : Type 0} {p : Result A Refusal} {q : Result Want Refusal} {r t : Refusal} → p ≡ Err r → q ≡ Err t → t ≡ r → wanted q ≡ nothing (refused p)
+unfolding wanted refused
+wanted_err e f g = rw (e, f, g)
+
+pub wanted_ok : (w : Want) → wanted (Ok w) ≡ accepted w
+unfolding wanted
+wanted_ok w = refl
+
 -- ---- a refusal, and none
-want_some : (k : ℕ) (w : Want) → (k ≡ 0 → ⊥) → nothing k ≡ want_of k w
+want_some : (k : ℕ) (w : Wanted) → (k ≡ 0 → ⊥) → nothing k ≡ want_of k w
 unfolding want_of
 want_some k w h = rw (ne_eqb k 0 h)
 
-want_none : (k : ℕ) (w : Want) → k ≡ 0 → w ≡ want_of k w
+want_none : (k : ℕ) (w : Wanted) → k ≡ 0 → w ≡ want_of k w
 unfolding want_of
 want_none k w h = rw h
 
@@ -82,7 +94,7 @@ module _ (W : Work) (room : ℕ) (r : List ℕ) where
       → nothing k ≡ record_want W room r
   record_early p q e h = record_is (e ∙ sym (after _ _ (regions_numbered W room) p ∙ after _ _ (shape_numbered (n W) r) q)) h
 
-  pub record_asked : {w : Want} → first_of (region_rules W room) ≡ 0 → first_of (shape_rules (n W) r) ≡ 0 → first_of (early_rules W r (content r)) ≡ 0
+  pub record_asked : {w : Wanted} → first_of (region_rules W room) ≡ 0 → first_of (shape_rules (n W) r) ≡ 0 → first_of (early_rules W r (content r)) ≡ 0
       → w ≡ asked W.memory (content r) → w ≡ record_want W room r
   unfolding record_want
   record_asked p q e h = h ∙ want_none _ _ (after _ _ (regions_numbered W room) p ∙ after _ _ (shape_numbered (n W) r) q ∙ e)
@@ -98,7 +110,7 @@ module _ (W : Work) (room : ℕ) (x : List ℕ) where
   pub propose_early_lem : {k : ℕ} → first_of (region_rules W room) ≡ 0 → k ≡ first_of (early_propose W x) → (k ≡ 0 → ⊥) → nothing k ≡ propose_want W room x
   propose_early_lem p e h = propose_is (e ∙ sym (after _ _ (regions_numbered W room) p)) h
 
-  pub propose_asked : {w : Want} → first_of (region_rules W room) ≡ 0 → first_of (early_propose W x) ≡ 0
+  pub propose_asked : {w : Wanted} → first_of (region_rules W room) ≡ 0 → first_of (early_propose W x) ≡ 0
       → w ≡ names W.memory x (safe_block W.memory (certificate_of (entry_of W.memory))) → w ≡ propose_want W room x
   unfolding propose_want
   propose_asked p e h = h ∙ want_none _ _ (after _ _ (regions_numbered W room) p ∙ e)
@@ -118,14 +130,7 @@ module _ (W : Work) (room : ℕ) (x s : List ℕ) where
   pub with_early : {k : ℕ} → first_of (region_rules W room) ≡ 0 → too_long s ≡ false → k ≡ first_of (early_propose W x) → (k ≡ 0 → ⊥) → nothing k ≡ propose_want_with W room x s
   with_early p t e h = with_is (skip (too_long s ⇒ 16) (early_propose W x) t e ∙ sym (after _ _ (regions_numbered W room) p)) h
 
-  pub with_asked : {w : Want} → first_of (region_rules W room) ≡ 0 → too_long s ≡ false → first_of (early_propose W x) ≡ 0
+  pub with_asked : {w : Wanted} → first_of (region_rules W room) ≡ 0 → too_long s ≡ false → first_of (early_propose W x) ≡ 0
       → w ≡ names W.memory x (safe_block W.memory (certificate_of (entry_of W.memory))) → w ≡ propose_want_with W room x s
   unfolding propose_want_with
   with_asked p t e h = h ∙ want_none _ _ (after _ _ (regions_numbered W room) p ∙ sym (skip (too_long s ⇒ 16) (early_propose W x) t (sym e)))
-
--- ---- two lists, by number
-pub two_first : (W : Work) (room : ℕ) (b : List Rule) {k : ℕ} → k ≡ first_of (region_rules W room) → (k ≡ 0 → ⊥) → k ≡ first_of (region_rules W room ++ b)
-two_first W room b e h = before _ b (regions_numbered W room) e h
-
-pub two_second : (W : Work) (room : ℕ) (b : List Rule) {k : ℕ} → first_of (region_rules W room) ≡ 0 → k ≡ first_of b → k ≡ first_of (region_rules W room ++ b)
-two_second W room b p e = e ∙ sym (after _ b (regions_numbered W room) p)

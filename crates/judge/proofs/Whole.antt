@@ -21,8 +21,7 @@ use Rattle.protocol.specs.Calls.{◌then◌, Replica, begin, record_core, timer_
 use Rattle.refusals.specs.Number.{answer_of, first_of, or_else, numbered}
 use Rattle.refusals.specs.Early.{early_rules, early_propose}
 use Rattle.refusals.proofs.Numbers.{answer_first, first_then, numbered_then, else_some, else_both}
-use Rattle.judge.specs.declared.Want.{Want}
-use Rattle.judge.specs.Want.{nothing, names, safe_block, asked, want_of, record_want, propose_want}
+use Rattle.judge.specs.Want.{Wanted, nothing, names, safe_block, asked, want_of, record_want, propose_want}
 use Rattle.judge.specs.Late.{looked_up, late_rules, record_late, propose_late}
 use Rattle.judge.specs.Contents.{record_due, propose_want_with, propose_due, propose_refusal}
 use Rattle.judge.proofs.Passing.{shape_whole}
@@ -45,23 +44,23 @@ else_assoc (suc i) j k =
     else_some (suc i) (or_else j k) h ∙ sym (ap (λ (l : ℕ). or_else l k) (else_some (suc i) j h) ∙ else_some (suc i) k h)
 
 -- a refusal stays, and without one what is wanted stands
-want_refused : (i : ℕ) (w : Want) → want_of (suc i) w ≡ nothing (suc i)
+want_refused : (i : ℕ) (w : Wanted) → want_of (suc i) w ≡ nothing (suc i)
 unfolding want_of
 want_refused i w = rw (ne_eqb (suc i) 0 (λ e. omega arith))
 
-want_open : (w : Want) → want_of 0 w ≡ w
+want_open : (w : Wanted) → want_of 0 w ≡ w
 unfolding want_of
 want_open w = refl
 
 -- the number before the store is asked, or else the late one
-chosen : (first : ℕ) (w : Want) (late : Want → ℕ) → w.refusal ≡ 0 → or_else first (late w) ≡ or_else (want_of first w).refusal (late (want_of first w))
+chosen : (first : ℕ) (w : Wanted) (late : Wanted → ℕ) → w.refusal ≡ 0 → or_else first (late w) ≡ or_else (want_of first w).refusal (late (want_of first w))
 chosen zero w late e = rw (want_open w, e)
 chosen (suc i) w late e =
     let h : suc i ≡ 0 → ⊥ = λ q. omega arith in
     rw (want_refused i w) (else_some (suc i) (late w) h ∙ sym (else_some (suc i) (late (nothing (suc i))) h))
 
 -- what follows where nothing is refused
-open-places : {P : Type 0} (i : ℕ) (w : Want) → (want_of i w).refusal ≡ 0 → (i ≡ 0 → want_of i w ≡ w → P) → P
+open-places : {P : Type 0} (i : ℕ) (w : Wanted) → (want_of i w).refusal ≡ 0 → (i ≡ 0 → want_of i w ≡ w → P) → P
 open-places zero w e f = f refl (want_open w)
 open-places (suc i) w e f = let h : suc i ≡ 0 = rw (want_refused i w) at e in absurd (omega arith)
 
@@ -120,7 +119,7 @@ module _ (W : Work) (room : ℕ) where
       first_then a (b ++ e) (regions_numbered W room) ∙ ap (or_else (first_of a)) (first_then b e (shape_numbered (n W) r)) in
       whole ∙ ap (or_else (first_of a)) (else_assoc (first_of b) (first_of e) l) ∙ else_assoc (first_of a) (or_else (first_of b) (first_of e)) l
       ∙ ap (λ (i : ℕ). or_else i l) (sym first)
-      ∙ chosen (first_of (a ++ (b ++ e))) (asked W.memory k) (λ (w : Want). record_late W w k) (asked_open W.memory k)
+      ∙ chosen (first_of (a ++ (b ++ e))) (asked W.memory k) (λ (w : Wanted). record_late W w k) (asked_open W.memory k)
 
   pub record_judged_lem : {A : Type 0} (r : List ℕ) (a : A) → judge (record_rules r) a ≡ answer_of (record_number r) a
   record_judged_lem r a =
@@ -181,7 +180,7 @@ module _ (W : Work) (room : ℕ) where
       propose_early_late_number W x ∙ first_then e (propose_late_of W x) (propose_numbered W x).1 ∙ ap (or_else (first_of e)) (propose_late_held W x) in
       first_then a (propose_rules W by_list x) (regions_numbered W room) ∙ ap (or_else (first_of a)) tail ∙ else_assoc (first_of a) (first_of e) l
       ∙ ap (λ (i : ℕ). or_else i l) (sym (first_then a e (regions_numbered W room)))
-      ∙ chosen (first_of (a ++ e)) w (λ (v : Want). propose_late W v) refl
+      ∙ chosen (first_of (a ++ e)) w (λ (v : Wanted). propose_late W v) refl
 
   pub propose_judged_lem : {A : Type 0} (x : List ℕ) (a : A) → judge (name_rules x) a ≡ answer_of (name_number x) a
   propose_judged_lem x a =

@@ -1,4 +1,4 @@
--- 16 and 17 as the code finds them (02, 2.5): each where no rule before it applies, or else 0. Assumes nothing.
+-- 16 and 17 by themselves (02, 2.5): each where no rule before it applies, or else 0. Assumes nothing.
 use Rattle.std.specs.Prelude.{ℕ, suc, cond, not, List, [], ◌∷◌, eqb, leb}
 use Rattle.settings.specs.Answer.{Rule, ◌⇒◌}
 use Rattle.settings.specs.Quorum.{replicas}
@@ -7,7 +7,7 @@ use Rattle.digest.specs.Name.{name_of, too_long}
 use Rattle.wire.specs.declared.Child.{Child}
 use Rattle.wire.specs.Shape.{shape_rules}
 use Rattle.wire.specs.Content.{certificate_of, Content, vote, commit, certificate, timeout, proposal, block, release, content}
-use Rattle.blocks.specs.declared.Found.{Found}
+use Rattle.blocks.specs.Store.{Found}
 use Rattle.memory.specs.Layout.{settings_of, entry_of}
 use Rattle.protocol.specs.Work.{Work, n, view_now}
 use Rattle.protocol.specs.Refusals.{region_rules}
@@ -15,8 +15,7 @@ use Rattle.protocol.specs.Contents.{given, too_long_rule}
 use Rattle.protocol.specs.Calls.{◌then◌}
 use Rattle.refusals.specs.Number.{first_of}
 use Rattle.refusals.specs.Early.{proposal_first, early_propose}
-use Rattle.judge.specs.declared.Want.{Want}
-use Rattle.judge.specs.Want.{names, safe_block, want_of}
+use Rattle.judge.specs.Want.{Wanted, names, safe_block, want_of}
 use Rattle.judge.specs.Late.{child_of, late_first, looked_up}
 
 -- a number that is asked where none of these rules applies
@@ -42,16 +41,16 @@ unfoldable pub record_due : Work → ℕ → List ℕ → List ℕ → ℕ
 record_due W room r s = behind (region_rules W room) (cond (too_long s) 16 (behind (shape_rules (n W) r) (digest_due W.memory (view_now W) (content r) s)))
 
 -- propose: what is to be looked up, or the refusal before that, with 16 "before 15"
-unfoldable pub propose_want_with : Work → ℕ → List ℕ → List ℕ → Want
+unfoldable pub propose_want_with : Work → ℕ → List ℕ → List ℕ → Wanted
 propose_want_with W room x s =
     want_of (first_of (region_rules W room then too_long_rule (given s) then early_propose W x)) (names W.memory x (safe_block W.memory (certificate_of (entry_of W.memory))))
 
 -- "for propose with the safe block and its height plus 1"
-abbrev pub next_child : List ℕ → Want → Found → Child
+abbrev pub next_child : List ℕ → Wanted → Found → Child
 next_child x w under = child_of x w.base (suc under.block.height.0)
 
 -- 17 "before 14"
-unfoldable pub propose_due : List ℕ → Want → Found → Found → List ℕ → ℕ
+unfoldable pub propose_due : List ℕ → Wanted → Found → Found → List ℕ → ℕ
 propose_due x w found under s =
     cond (eqb w.refusal 16) 16 (cond (eqb w.refusal 0) (behind (late_first found under) (digest_number (next_child x w under) s)) 0)
 

@@ -6,12 +6,11 @@ use Rattle.settings.specs.Quorum.{last_height}
 use Rattle.codec.specs.Names.{same_bytes}
 use Rattle.wire.specs.declared.Child.{Child}
 use Rattle.wire.specs.Content.{Content, vote, commit, certificate, timeout, proposal, block, release}
-use Rattle.blocks.specs.declared.Found.{Found}
-use Rattle.blocks.specs.Store.{held}
+use Rattle.blocks.specs.Store.{Found, held}
 use Rattle.protocol.specs.Work.{Work, tip}
 use Rattle.protocol.specs.Refusals.{store_length}
 use Rattle.refusals.specs.Number.{first_of}
-use Rattle.judge.specs.declared.Want.{Want}
+use Rattle.judge.specs.Want.{Wanted}
 
 abbrev pub child_of : List ℕ → List ℕ → ℕ → Child
 child_of x y h = record { name = x; parent = y; height = record { 0 = h } }
@@ -26,7 +25,7 @@ misplaced_on under b =
     not (under.is && eqb b.height.0 (suc under.block.height.0)) || ltb last_height b.height.0
 
 -- "block new and store full"
-unfoldable pub store_full : Want → Found → Bool
+unfoldable pub store_full : Wanted → Found → Bool
 store_full w found = not found.is && leb store_length w.count
 
 -- propose: 11 to 13; the height is the safe block's plus 1
@@ -37,7 +36,7 @@ late_first found under =
     ∷ ltb last_height (suc under.block.height.0) ⇒ 13
     ∷ []
 
-module _ (w : Want) (found under : Found) where
+module _ (w : Wanted) (found under : Found) where
   -- kinds 7 and 8: 11 to 14
   unfoldable pub chain_rules : Child → List Rule
   chain_rules b =
@@ -61,7 +60,7 @@ module _ (w : Want) (found under : Found) where
   late_propose = late_first found under ++ (store_full w found ⇒ 14 ∷ [])
 
 -- ---- with what the store holds: the first `count` entries, and the tip
-module _ (W : Work) (w : Want) where
+module _ (W : Work) (w : Wanted) where
   abbrev pub looked_up : List ℕ → Found
   looked_up x = held (tip W) (take w.count W.store) x
 

@@ -1,11 +1,18 @@
 -- Going down a list of rules, by number. Assumes nothing.
 use mathlib.Core.Path.{◌≡◌, refl, sym, ◌∙◌}
-use mathlib.Core.Bool.{Bool, true, false, cond, not, ◌&&◌, ◌||◌}
+use mathlib.Core.Bool.{Bool, true, false, true≢false, cond, not, ◌&&◌, ◌||◌}
 use mathlib.Core.List.{List, [], ◌∷◌, ◌++◌}
 use Prim.Native.Nat.{ℕ, zero, suc, ◌<◌}
 use native.Mathlib.Omega.{arith}
 use borrow.Author.Tests.{eq-eqb, ne_eqb, ltb-true}
-use lib.Dec.{ltb}
+use lib.Dec.{leb, ltb}
+use Rattle.std.proofs.Common.{is_le, nat_cmp}
+use Rattle.std.proofs.lemmas.Grind.{common_steps}
+use Rattle.std.specs.Prelude.{Result, Ok, Err}
+use Rattle.std.specs.Result.{is_err}
+use Rattle.settings.specs.declared.refusal.Refusal.{Refusal}
+use Rattle.settings.specs.declared.refusal.Refusal.TheVariants.{Settings, Regions, Length, Kind, Content, Party, ViewBelow, ViewAbove, Certificate, Repeated, Conflicting, ParentMissing, ParentWrong, StoreFull, Turn, ContentsTooLong, NameWrong}
+use Rattle.settings.specs.Refusal.{number, refused}
 use Rattle.settings.specs.Answer.{refuses, Rule, judge}
 use Rattle.codec.proofs.Order.{and_true}
 use Rattle.refusals.specs.Number.{number_of, answer_of, first_of, or_else, numbered}
@@ -108,3 +115,63 @@ else_none k l h = rw (eq-eqb k 0 h)
 pub else_both : (k l : ℕ) → or_else k l ≡ 0 → (k ≡ 0) × (l ≡ 0)
 else_both zero l e = (refl, sym (else_none 0 l refl) ∙ e)
 else_both (suc k) l e = let h : suc k ≡ 0 = sym (else_some (suc k) l (λ q. omega arith)) ∙ e in absurd (omega arith)
+
+-- what `<=` of two views says, as 01's lists do
+pub upto : {r t : Bool} (a b : ℕ) → r ≡ is_le (nat_cmp a b) → r ≡ t → leb a b ≡ t
+upto a b e f = same a b ∙ sym e ∙ f
+  where
+    same : (a b : ℕ) → leb a b ≡ is_le (nat_cmp a b)
+    same a b = grind (arith, common_steps)
+
+-- ---- results
+-- no refusal has the number of acceptance
+pub some_number : (r : Refusal) → number r ≡ 0 → ⊥
+unfolding number
+some_number Settings e = omega (arith, e)
+some_number Regions e = omega (arith, e)
+some_number Length e = omega (arith, e)
+some_number Kind e = omega (arith, e)
+some_number Content e = omega (arith, e)
+some_number Party e = omega (arith, e)
+some_number ViewBelow e = omega (arith, e)
+some_number ViewAbove e = omega (arith, e)
+some_number Certificate e = omega (arith, e)
+some_number Repeated e = omega (arith, e)
+some_number Conflicting e = omega (arith, e)
+some_number ParentMissing e = omega (arith, e)
+some_number ParentWrong e = omega (arith, e)
+some_number StoreFull e = omega (arith, e)
+some_number Turn e = omega (arith, e)
+some_number ContentsTooLong e = omega (arith, e)
+some_number NameWrong e = omega (arith, e)
+
+pub refused_none : {A : Type 0} {p : Result A Refusal} {x : A} → p ≡ Ok x → refused p ≡ 0
+unfolding refused
+refused_none e = rw e
+
+pub refused_some : {A : Type 0} {p : Result A Refusal} {r : Refusal} → p ≡ Err r → refused p ≡ 0 → ⊥
+unfolding refused
+refused_some {r = r} e = rw e (some_number r)
+
+pub is_refused : {A : Type 0} {t : Bool} (p : Result A Refusal) → t ≡ is_err p → t ≡ true → refused p ≡ 0 → ⊥
+unfolding refused
+is_refused (Ok x) e f = absurd (true≢false (sym f ∙ e))
+is_refused (Err r) e f = some_number r
+
+pub isnt_refused : {A : Type 0} {t : Bool} (p : Result A Refusal) → t ≡ is_err p → t ≡ false → refused p ≡ 0
+unfolding refused
+isnt_refused (Ok x) e f = refl
+isnt_refused (Err r) e f = absurd (true≢false (sym e ∙ f))
+
+-- what `?` passes on has the number of what it was
+pub passed_on : {A B : Type 0} {p : Result A Refusal} {q : Result B Refusal} {r s : Refusal} → p ≡ Err r → q ≡ Err s → s ≡ r → refused q ≡ refused p
+unfolding refused
+passed_on e f g = rw (e, f, g)
+
+-- a `?` between two lists: the refusal of the first, or what the second says
+pub stops : {A B : Type 0} {p : Result A Refusal} {q : Result B Refusal} {r s : Refusal} (a b : List Rule) → numbered a ≡ true → refused p ≡ first_of a → p ≡ Err r → q ≡ Err s → s ≡ r
+    → refused q ≡ first_of (a ++ b)
+stops a b h i e f g = passed_on e f g ∙ i ∙ sym (first_then a b h ∙ else_some (first_of a) (first_of b) (λ z. refused_some e (i ∙ z)))
+
+pub goes : {A : Type 0} {p : Result A Refusal} {x : A} {k : ℕ} (a b : List Rule) → numbered a ≡ true → refused p ≡ first_of a → p ≡ Ok x → k ≡ first_of b → k ≡ first_of (a ++ b)
+goes a b h i e f = f ∙ sym (first_then a b h ∙ else_none (first_of a) (first_of b) (sym i ∙ refused_none e))

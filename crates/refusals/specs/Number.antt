@@ -1,4 +1,4 @@
--- Refusals as numbers, as the code gives them: 01's number, and 0 where nothing is refused. Assumes nothing.
+-- Refusals as numbers: 01's number, and 0 where nothing is refused. Assumes nothing.
 use Rattle.std.specs.Prelude.{ℕ, zero, suc, Bool, true, cond, ◌&&◌, List, [], ◌∷◌, eqb, ltb}
 use Rattle.settings.specs.Answer.{Answer, accepts, refuses, Rule}
 

@@ -27,11 +27,11 @@ progress-requires c = let entry-is : take (entry_place + c.entry_length.result -
       block = λ q. omega (arith, sized_block _ _ c.requires.1.1 q);
       timeouts = λ q. omega (arith, sized_timeouts _ _ c.requires.1.1 q);
     } in
-    let S = stands in rw entry-is (S.head, S.block)
+    rw entry-is (stands.head, stands.block)
 
-pub safe_certificate-k-requires : goal.safe_certificate-k-requires
+pub safe_certificate-requires : goal.safe_certificate-requires
 unfolding entry_of
-safe_certificate-k-requires c = let entry-is : take (entry_place + c.entry_length.result - entry_place) (drop entry_place c.args.mem.now) ≡ entry_of c.args.mem.now = part_lent c.args.mem.now entry_place c.entry_length.result ∙ rw c.entry_length.ensures in
+safe_certificate-requires c = let entry-is : take (entry_place + c.entry_length.result - entry_place) (drop entry_place c.args.mem.now) ≡ entry_of c.args.mem.now = part_lent c.args.mem.now entry_place c.entry_length.result ∙ rw c.entry_length.ensures in
     let fits : (24 ≤ entry_length_of c.args.mem.now) × (entry_length_of c.args.mem.now ≤ 3608) = entry_fits _ _ c.requires.1.0 c.requires.0 c.requires.1.1 in
     let stands : Stands (entry_of c.args.mem.now) 0 = record {
       head = rw (length-part c.args.mem.now entry_place (entry_length_of c.args.mem.now) (omega (arith, fits.1, c.requires.0))) fits.0;
@@ -43,4 +43,4 @@ safe_certificate-k-requires c = let entry-is : take (entry_place + c.entry_lengt
 pub returns : goal.returns
 unfolding entry_of
 returns c = let entry-is : take (entry_place + c.entry_length.result - entry_place) (drop entry_place c.args.mem.now) ≡ entry_of c.args.mem.now = part_lent c.args.mem.now entry_place c.entry_length.result ∙ rw c.entry_length.ensures in
-    rw (c.progress.ensures.1, entry-is, c.settings.ensures) at (ap (λ (k : Certificate). k.name) c.safe_certificate-k.ensures)
+    rw (c.progress.ensures.1, entry-is, c.settings.ensures) at (ap (λ (k : Certificate). k.name) c.safe_certificate.ensures)

@@ -1,29 +1,30 @@
 use mathlib.Core.Path.{sym, ◌∙◌}
-use Rattle.refusals.specs.Early.{early_propose}
-use Rattle.judge.proofs.Passing.{Ready, ready}
-use Rattle.judge.proofs.Wants.{propose_region, propose_early_lem, propose_asked}
 use native.Mathlib.Omega.{arith}
+use Rattle.std.proofs.lemmas.Result.{err_from_is_err_and}
+use Rattle.refusals.specs.Early.{early_propose}
+use Rattle.refusals.proofs.Numbers.{refused_none, refused_some}
+use Rattle.judge.proofs.Passing.{Ready, ready}
+use Rattle.judge.proofs.Wants.{wanted_err, wanted_ok, propose_region, propose_early_lem, propose_asked}
 use Rattle.judge.proofs.propose.Goals as goal
 
-pub returns-then-region-ne0 : goal.returns-then-region-ne0
-returns-then-region-ne0 c = λ s e. c.nothing.ensures ∙ propose_region _ _ _ (c.regions-region.ensures s e) c.if-region-ne0.true
+pub returns-in_err-regions : goal.returns-in_err-regions
+returns-in_err-regions c = let p = err_from_is_err_and c.from_residual.result c.from_residual.ensures.1 in
+    λ s e. wanted_err c.in_err-regions.was p.1 p.2 ∙ propose_region _ _ _ (c.regions.ensures s e) (refused_some c.in_err-regions.was)
 
-pub propose_early-refusal-requires : goal.propose_early-refusal-requires
-propose_early-refusal-requires c = let readied : Ready c.args.c c.args.mem.now = ready _ _ _ _ c.regions-region.result c.regions-region.ensures c.if-region-ne0.false in
-    let r = readied in (omega (arith, r.long), (r.listed, r.first))
+pub propose_early-requires : goal.propose_early-requires
+propose_early-requires c = let readied : Ready c.args.c c.args.mem.now = ready _ _ _ _ _ c.regions.ensures (refused_none c.in_ok-regions.was) in (omega (arith, readied.long), (readied.listed, readied.first))
 
-pub returns-then-refusal-ne0 : goal.returns-then-refusal-ne0
+pub returns-in_err-propose_early : goal.returns-in_err-propose_early
 unfolding early_propose
-returns-then-refusal-ne0 c = λ s e. c.nothing-then-refusal-ne0.ensures ∙ propose_early_lem _ _ _ (sym (c.regions-region.ensures s e) ∙ c.if-region-ne0.false) c.propose_early-refusal.ensures c.if-refusal-ne0.true
+returns-in_err-propose_early c = let p = err_from_is_err_and c.from_residual-in_err-propose_early.result c.from_residual-in_err-propose_early.ensures.1 in
+    λ s e. wanted_err c.in_err-propose_early.was p.1 p.2 ∙ propose_early_lem _ _ _ (sym (c.regions.ensures s e) ∙ refused_none c.in_ok-regions.was) c.propose_early.ensures (refused_some c.in_err-propose_early.was)
 
 pub entry_base-requires : goal.entry_base-requires
-entry_base-requires c = let readied : Ready c.args.c c.args.mem.now = ready _ _ _ _ c.regions-region.result c.regions-region.ensures c.if-region-ne0.false in
-    let r = readied in (r.long, (r.few, r.entry))
+entry_base-requires c = let readied : Ready c.args.c c.args.mem.now = ready _ _ _ _ _ c.regions.ensures (refused_none c.in_ok-regions.was) in (readied.long, (readied.few, readied.entry))
 
 pub names-requires : goal.names-requires
-names-requires c = let readied : Ready c.args.c c.args.mem.now = ready _ _ _ _ c.regions-region.result c.regions-region.ensures c.if-region-ne0.false in
-    let r = readied in omega (arith, r.long)
+names-requires c = let readied : Ready c.args.c c.args.mem.now = ready _ _ _ _ _ c.regions.ensures (refused_none c.in_ok-regions.was) in omega (arith, readied.long)
 
 pub returns : goal.returns
 unfolding early_propose
-returns c = λ s e. propose_asked _ _ _ (sym (c.regions-region.ensures s e) ∙ c.if-region-ne0.false) (sym c.propose_early-refusal.ensures ∙ c.if-refusal-ne0.false) (rw c.entry_base.ensures at c.names.ensures)
+returns c = λ s e. wanted_ok _ ∙ propose_asked _ _ _ (sym (c.regions.ensures s e) ∙ refused_none c.in_ok-regions.was) (sym c.propose_early.ensures ∙ refused_none c.in_ok-propose_early.was) (rw c.entry_base.ensures at c.names.ensures)

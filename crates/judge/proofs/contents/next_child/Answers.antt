@@ -6,5 +6,5 @@ use Rattle.judge.proofs.contents.next_child.Goals as goal
 
 pub returns : goal.returns
 returns c = let a = c.args in
-    let e : a.under.block.height.0 + 1 ≡ suc a.under.block.height.0 = omega arith in
+    let e : a.lower.height.0 + 1 ≡ suc a.lower.height.0 = omega arith in
     ap (λ (h : ℕ). child_of a.name a.want.base h) e

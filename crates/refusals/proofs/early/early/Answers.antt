@@ -1,65 +1,86 @@
-use mathlib.Core.Path.{◌≡◌, sym, ◌∙◌}
+use mathlib.Core.Path.{◌≡◌, sym}
 use mathlib.Core.Bool.{false}
+use mathlib.Core.List.{List}
+use Prim.Native.Nat.{ℕ}
 use borrow.Author.Tests.{ne_eqb}
-use Rattle.wire.specs.Shape.{certificate_length, certificate_kind_bad}
+use native.Mathlib.Omega.{arith}
+use Rattle.std.proofs.lemmas.Grind.{common_steps}
+use Rattle.wire.specs.Fields.{kind_of}
+use Rattle.wire.specs.Shape.{certificate_length, certificate_kind_bad, bad_length, bad_kind}
 use Rattle.wire.specs.Content.{content}
 use Rattle.wire.proofs.Frames.{whole_header, whole_vote, whole_commit, whole_timeout, whole_proposal, inner_length, whole_certificate, inner_kind, certificate_kind, certificate_other}
-use Rattle.refusals.specs.Early.{early_rules}
-use native.Mathlib.Omega.{arith}
+use Rattle.protocol.specs.Refusals.{refusals}
+use Rattle.refusals.specs.Early.{ballot_rules, early_rules}
+use Rattle.refusals.proofs.early.early.Goals.{in_default-via-in-Some+in_default, in_default-via-in_default}
 use Rattle.refusals.proofs.early.early.Goals as goal
 
-pub u16_at-kind-requires : goal.u16_at-kind-requires
-u16_at-kind-requires c = omega (arith, whole_header _ c.requires.1.1.1.0)
+-- a record of no other kind is a certificate
+record Others (r : List ℕ) : Type 0 where
+  pub vote : kind_of r ≡ 1 → ⊥
+  pub commit : kind_of r ≡ 2 → ⊥
+  pub timeout : kind_of r ≡ 5 → ⊥
+  pub proposal : kind_of r ≡ 7 → ⊥
+  pub block : kind_of r ≡ 8 → ⊥
 
-pub vote_early-requires : goal.vote_early-requires
-vote_early-requires c = (c.requires.0, (c.requires.1.0, omega (arith, whole_vote _ c.requires.1.1.1.0 (sym c.u16_at-kind.ensures ∙ c.if-kind-eq1.true))))
+is-certificate : (r : List ℕ) → bad_length r ≡ false → bad_kind r ≡ false → Others r → (certificate_length r ≡ false) × (certificate_kind_bad r ≡ false)
+is-certificate r l k o = (whole_certificate r l o.vote o.commit o.timeout o.proposal o.block, certificate_kind r k o.vote o.commit o.timeout o.proposal o.block)
 
-pub returns-then-kind-eq1 : goal.returns-then-kind-eq1
-unfolding content early_rules
-returns-then-kind-eq1 c = rw (← c.u16_at-kind.ensures, c.if-kind-eq1.true) c.vote_early.ensures
+no-release : (r : List ℕ) → certificate_kind_bad r ≡ false → kind_of r ≡ 9 → ⊥
+no-release r k e = let six = certificate_other r k (λ z. omega (arith, e, z)) in omega (arith, e, six)
 
-pub commit_early-requires : goal.commit_early-requires
-commit_early-requires c = (c.requires.0, (c.requires.1.0, omega (arith, whole_commit _ c.requires.1.1.1.0 (sym c.u16_at-kind.ensures ∙ c.if-kind-eq2.true))))
+pub kind_at-requires : goal.kind_at-requires
+kind_at-requires c = omega (arith, whole_header _ c.requires.1.1.1.0)
 
-pub returns-then-kind-eq2 : goal.returns-then-kind-eq2
-unfolding content early_rules
-returns-then-kind-eq2 c = rw (← c.u16_at-kind.ensures, c.if-kind-eq2.true) c.commit_early.ensures
+pub u64_at-requires : goal.u64_at-requires
+u64_at-requires c = let k : 1 ≡ kind_of c.args.rec.now = rw c.in-Some-Vote.field-0-is at c.in-Some-Vote.ensures in omega (arith, whole_vote _ c.requires.1.1.1.0 (sym k))
+
+pub ballot-requires : goal.ballot-requires
+ballot-requires c = let k : 1 ≡ kind_of c.args.rec.now = rw c.in-Some-Vote.field-0-is at c.in-Some-Vote.ensures in
+    (c.requires.0, (c.requires.1.0, (omega (arith, whole_vote _ c.requires.1.1.1.0 (sym k)), omega (arith, c.vote_row.ensures))))
+
+pub returns-in-Some-Vote : goal.returns-in-Some-Vote
+unfolding content early_rules refusals ballot_rules
+returns-in-Some-Vote c = let k : 1 ≡ kind_of c.args.rec.now = rw c.in-Some-Vote.field-0-is at c.in-Some-Vote.ensures in rw (← k) (rw (c.vote_row.ensures, c.u64_at.ensures) at c.ballot.ensures)
+
+pub u64_at-requires-in-Some-Commit : goal.u64_at-requires-in-Some-Commit
+u64_at-requires-in-Some-Commit c = let k : 2 ≡ kind_of c.args.rec.now = rw c.in-Some-Commit.field-0-is at c.in-Some-Commit.ensures in omega (arith, whole_commit _ c.requires.1.1.1.0 (sym k))
+
+pub ballot-requires-in-Some-Commit : goal.ballot-requires-in-Some-Commit
+ballot-requires-in-Some-Commit c = let k : 2 ≡ kind_of c.args.rec.now = rw c.in-Some-Commit.field-0-is at c.in-Some-Commit.ensures in
+    (c.requires.0, (c.requires.1.0, (omega (arith, whole_commit _ c.requires.1.1.1.0 (sym k)), omega (arith, c.commit_row.ensures))))
+
+pub returns-in-Some-Commit : goal.returns-in-Some-Commit
+unfolding content early_rules refusals ballot_rules
+returns-in-Some-Commit c = let k : 2 ≡ kind_of c.args.rec.now = rw c.in-Some-Commit.field-0-is at c.in-Some-Commit.ensures in rw (← k) (rw (c.commit_row.ensures, c.u64_at-in-Some-Commit.ensures) at c.ballot-in-Some-Commit.ensures)
 
 pub timeout_early-requires : goal.timeout_early-requires
-timeout_early-requires c = (c.requires.0, (c.requires.1.0, omega (arith, whole_timeout _ c.requires.1.1.1.0 (sym c.u16_at-kind.ensures ∙ c.if-kind-eq5.true))))
+timeout_early-requires c = let k : 5 ≡ kind_of c.args.rec.now = rw c.in-Some-Timeout.field-0-is at c.in-Some-Timeout.ensures in (c.requires.0, (c.requires.1.0, omega (arith, whole_timeout _ c.requires.1.1.1.0 (sym k))))
 
-pub returns-then-kind-eq5 : goal.returns-then-kind-eq5
+pub returns-in-Some-Timeout : goal.returns-in-Some-Timeout
 unfolding content early_rules
-returns-then-kind-eq5 c = rw (← c.u16_at-kind.ensures, c.if-kind-eq5.true) c.timeout_early.ensures
+returns-in-Some-Timeout c = let k : 5 ≡ kind_of c.args.rec.now = rw c.in-Some-Timeout.field-0-is at c.in-Some-Timeout.ensures in rw (← k) c.timeout_early.ensures
 
 pub proposal_early-requires : goal.proposal_early-requires
-proposal_early-requires c = let k = sym c.u16_at-kind.ensures ∙ c.if-kind-eq7.true in (omega (arith, c.requires.0), (c.requires.1.1.0, (whole_proposal _ c.requires.1.1.1.0 k, (inner_length _ c.requires.1.1.1.0 k, inner_kind _ c.requires.1.1.1.1 k))))
+proposal_early-requires c = let k : 7 ≡ kind_of c.args.rec.now = rw c.in-Some-Proposal.field-0-is at c.in-Some-Proposal.ensures in
+    (omega (arith, c.requires.0), (c.requires.1.1.0, (whole_proposal _ c.requires.1.1.1.0 (sym k), (inner_length _ c.requires.1.1.1.0 (sym k), inner_kind _ c.requires.1.1.1.1 (sym k)))))
 
-pub returns-then-kind-eq7 : goal.returns-then-kind-eq7
+pub returns-in-Some-Proposal : goal.returns-in-Some-Proposal
 unfolding content early_rules
-returns-then-kind-eq7 c = rw (← c.u16_at-kind.ensures, c.if-kind-eq7.true) c.proposal_early.ensures
+returns-in-Some-Proposal c = let k : 7 ≡ kind_of c.args.rec.now = rw c.in-Some-Proposal.field-0-is at c.in-Some-Proposal.ensures in rw (← k) c.proposal_early.ensures
 
 pub block_first-requires : goal.block_first-requires
 block_first-requires c = (omega (arith, c.requires.0), whole_header _ c.requires.1.1.1.0)
 
-pub returns-then-kind-eq8 : goal.returns-then-kind-eq8
+pub returns-in-Some-Block : goal.returns-in-Some-Block
 unfolding content early_rules
-returns-then-kind-eq8 c = rw (← c.u16_at-kind.ensures, c.if-kind-eq8.true) c.block_first.ensures
+returns-in-Some-Block c = let k : 8 ≡ kind_of c.args.rec.now = rw c.in-Some-Block.field-0-is at c.in-Some-Block.ensures in rw (← k) c.block_first.ensures
 
 pub certificate_early-requires : goal.certificate_early-requires
-certificate_early-requires c = let is-certificate : (certificate_length c.args.rec.now ≡ false) × (certificate_kind_bad c.args.rec.now ≡ false) = let e = c.u16_at-kind.ensures in (
-  whole_certificate _ c.requires.1.1.1.0 (λ k. c.if-kind-eq1.false (e ∙ k)) (λ k. c.if-kind-eq2.false (e ∙ k)) (λ k. c.if-kind-eq5.false (e ∙ k)) (λ k. c.if-kind-eq7.false (e ∙ k)) (λ k. c.if-kind-eq8.false (e ∙ k)),
-  certificate_kind _ c.requires.1.1.1.1 (λ k. c.if-kind-eq1.false (e ∙ k)) (λ k. c.if-kind-eq2.false (e ∙ k)) (λ k. c.if-kind-eq5.false (e ∙ k)) (λ k. c.if-kind-eq7.false (e ∙ k)) (λ k. c.if-kind-eq8.false (e ∙ k)),
-) in
-    (omega (arith, c.requires.0), is-certificate)
+certificate_early-requires c = let o : Others c.args.rec.now = elim c.in_default.branch [ in_default-via-in-Some+in_default w ↦ record { vote = λ e. grind (arith, common_steps); commit = λ e. grind (arith, common_steps); timeout = λ e. grind (arith, common_steps); proposal = λ e. grind (arith, common_steps); block = λ e. grind (arith, common_steps) } | in_default-via-in_default w ↦ record { vote = λ e. grind (arith, common_steps); commit = λ e. grind (arith, common_steps); timeout = λ e. grind (arith, common_steps); proposal = λ e. grind (arith, common_steps); block = λ e. grind (arith, common_steps) } ] in
+    (omega (arith, c.requires.0), is-certificate _ c.requires.1.1.1.0 c.requires.1.1.1.1 o)
 
-pub returns : goal.returns
+pub returns-in_default : goal.returns-in_default
 unfolding content early_rules
-returns c = let is-certificate : (certificate_length c.args.rec.now ≡ false) × (certificate_kind_bad c.args.rec.now ≡ false) = let e = c.u16_at-kind.ensures in (
-  whole_certificate _ c.requires.1.1.1.0 (λ k. c.if-kind-eq1.false (e ∙ k)) (λ k. c.if-kind-eq2.false (e ∙ k)) (λ k. c.if-kind-eq5.false (e ∙ k)) (λ k. c.if-kind-eq7.false (e ∙ k)) (λ k. c.if-kind-eq8.false (e ∙ k)),
-  certificate_kind _ c.requires.1.1.1.1 (λ k. c.if-kind-eq1.false (e ∙ k)) (λ k. c.if-kind-eq2.false (e ∙ k)) (λ k. c.if-kind-eq5.false (e ∙ k)) (λ k. c.if-kind-eq7.false (e ∙ k)) (λ k. c.if-kind-eq8.false (e ∙ k)),
-) in
-    let no-release : c.u16_at-kind.result ≡ 9 → ⊥ = λ k. let e = c.u16_at-kind.ensures in
-    let six = certificate_other _ is-certificate.1 (λ z. omega (arith, e, k, z)) in
-    omega (arith, e, k, six) in
-    rw (← c.u16_at-kind.ensures, ne_eqb _ _ c.if-kind-eq1.false, ne_eqb _ _ c.if-kind-eq2.false, ne_eqb _ _ c.if-kind-eq5.false, ne_eqb _ _ c.if-kind-eq7.false, ne_eqb _ _ c.if-kind-eq8.false, ne_eqb _ _ no-release) c.certificate_early.ensures
+returns-in_default c = let o : Others c.args.rec.now = elim c.in_default.branch [ in_default-via-in-Some+in_default w ↦ record { vote = λ e. grind (arith, common_steps); commit = λ e. grind (arith, common_steps); timeout = λ e. grind (arith, common_steps); proposal = λ e. grind (arith, common_steps); block = λ e. grind (arith, common_steps) } | in_default-via-in_default w ↦ record { vote = λ e. grind (arith, common_steps); commit = λ e. grind (arith, common_steps); timeout = λ e. grind (arith, common_steps); proposal = λ e. grind (arith, common_steps); block = λ e. grind (arith, common_steps) } ] in
+    let g = is-certificate _ c.requires.1.1.1.0 c.requires.1.1.1.1 o in
+    rw (ne_eqb _ _ o.vote, ne_eqb _ _ o.commit, ne_eqb _ _ o.timeout, ne_eqb _ _ o.proposal, ne_eqb _ _ o.block, ne_eqb _ _ (no-release _ g.1)) c.certificate_early.ensures
