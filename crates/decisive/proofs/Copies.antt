@@ -6,17 +6,20 @@ use Prim.Native.Nat.{ℕ, zero, suc, ◌+◌, ◌*◌, ◌-◌, ◌≤◌, ◌<�
 use native.Mathlib.Nat.{zero-add}
 use native.Mathlib.Omega.{arith}
 use borrow.Table.Elements.{map_app}
+use lib.Dec.{eqb}
 use lib.ListN.{length, take, drop}
+use lib.Pointwise.{pointwise}
 use lib.Seq.{take-nil, take-take, drop-drop}
 use Rattle.settings.specs.declared.Settings.{Settings}
 use Rattle.settings.specs.Quorum.{timeout_quorum}
 use Rattle.codec.specs.Bytes.{part, patch}
 use Rattle.codec.specs.Names.{same_bytes}
+use Rattle.codec.proofs.Library.{pointwise_same}
 use Rattle.codec.proofs.Laws.{length-part, length-patch, part_same, part_before, part_span}
 use Rattle.wire.specs.declared.Timeout.{Timeout}
 use Rattle.wire.specs.Fields.{sender_of, cut, timeouts_head, timeout_length}
 use Rattle.wire.specs.Content.{timeout_of}
-use Rattle.wire.proofs.Turns.{place, slot, timeouts_from, timeouts_turn, timeouts_end}
+use Rattle.wire.proofs.Turns.{place, slot, slots_from, slots_turn, timeouts_from, timeouts_turn}
 use Rattle.certificate.specs.Order.{Ascending}
 use Rattle.certificate.proofs.Timeouts.{count_timeouts}
 use Rattle.decisive.specs.Decisive.{without, safe_block, is_decisive, none, named, lowest_of}
@@ -117,6 +120,18 @@ left_out_lem r z k i h first last =
     let b = ap (λ (j : ℕ). take (place k - j) (drop j r)) next ∙ part_span r (place (i + 1)) (place k) (timeout_length * (k - (i + 1))) (omega arith) in
     last ∙ ap₂ (λ (t u : List ℕ). patch t (place i) u) a b
 
+-- ---- where the timeouts from timeout i on are left, the next one is timeout i
+some_cut : (j : ℕ) (d : List ℕ) {x : List ℕ} {l : List (List ℕ)} → cut j d ≡ x ∷ l → 0 < j
+unfolding cut
+some_cut zero d e = cc
+some_cut (suc j) d e = omega arith
+
+pub slot_next : (r : List ℕ) (k i : ℕ) {x : List ℕ} {l m : List (List ℕ)} → l ≡ slots_from r k i → l ≡ x ∷ m → (i < k) × (x ≡ slot r i) × (m ≡ slots_from r k (i + 1))
+slot_next r k i e f =
+    let g : i < k = omega (arith, some_cut (k - i) _ (sym e ∙ f)) in
+    let h = slots_turn r k i g in
+    (g, cc, cc)
+
 -- ---- the search at timeout i, by the safe block of its copy
 module _ (s : Settings) (n : ℕ) (r : List ℕ) (k i : ℕ) (a : Ascending n 0 (first_timeouts r k)) where
   abbrev ts : List Timeout
@@ -139,16 +154,16 @@ module _ (s : Settings) (n : ℕ) (r : List ℕ) (k i : ℕ) (a : Ascending n 0 
         by_name s ts this.sender (omega (arith, c, f))
         ∙ ap (λ (t : List Timeout). not (same_bytes (safe_block s t) (safe_block s ts))) without-this
 
-    module _ (q : timeout_quorum s < k) {x y : List ℕ} (e : x ≡ safe_block s (others r k i)) (d : y ≡ safe_block s ts) {same : Bool} (t : same ≡ same_bytes x y) where
-      decisive_by : is_decisive s ts this.sender ≡ not same
-      decisive_by = decisive_here q ∙ ap not (sym (t ∙ ap₂ same_bytes e d))
+    module _ (q : timeout_quorum s < k) {x y : List ℕ} (e : x ≡ safe_block s (others r k i)) (d : y ≡ safe_block s ts) {differs : Bool} (t : differs ≡ not (pointwise eqb x y)) where
+      decisive_by : is_decisive s ts this.sender ≡ differs
+      decisive_by = decisive_here q ∙ sym (t ∙ ap not (pointwise_same x y ∙ ap₂ same_bytes e d))
 
-      pub found_here : same ≡ false → lowest_of s ts (timeouts_from r k i) ≡ named (sender_of (slot r i))
+      pub found_here : differs ≡ true → lowest_of s ts (timeouts_from r k i) ≡ named (sender_of (slot r i))
       unfolding timeout_of
-      found_here g = ap (lowest_of s ts) (timeouts_turn r k i h) ∙ lowest_here s ts this _ (decisive_by ∙ ap not g)
+      found_here g = ap (lowest_of s ts) (timeouts_turn r k i h) ∙ lowest_here s ts this _ (decisive_by ∙ g)
 
-      pub goes_on_lem : same ≡ true → lowest_of s ts (timeouts_from r k i) ≡ lowest_of s ts (timeouts_from r k (i + 1))
-      goes_on_lem g = ap (lowest_of s ts) (timeouts_turn r k i h) ∙ lowest_on s ts this _ (decisive_by ∙ ap not g)
+      pub goes_on_lem : differs ≡ false → lowest_of s ts (timeouts_from r k i) ≡ lowest_of s ts (timeouts_from r k (i + 1))
+      goes_on_lem g = ap (lowest_of s ts) (timeouts_turn r k i h) ∙ lowest_on s ts this _ (decisive_by ∙ g)
 
-  pub not_found : k ≤ i → lowest_of s ts (timeouts_from r k i) ≡ none
-  not_found h = ap (lowest_of s ts) (timeouts_end r k i h) ∙ lowest_end s ts
+  pub not_found : slots_from r k i ≡ [] → lowest_of s ts (timeouts_from r k i) ≡ none
+  not_found e = ap (λ (l : List (List ℕ)). lowest_of s ts (map timeout_of l)) e ∙ lowest_end s ts

@@ -4,3 +4,4 @@ pub mod Copies
 pub mod Rules
 pub mod Laws
 pub mod Written
+pub mod Passing

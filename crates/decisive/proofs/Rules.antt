@@ -198,17 +198,17 @@ module _ (f c k n : ℕ) (r : List ℕ) where
       judge_past (decisive s₀ (timeouts_in r)) (settings_rules s₀ n) (record_rules s₀ n r) (a, (b, tt))
       ∙ ap (λ (t : Settings). judge (record_rules t n r) (decisive t (timeouts_in r))) x.1
 
-  pub settings_refused : opening f c k n 0 ≡ refuses 1 → decisive_call f c k n r ≡ refuses 1
+  pub settings_refused : (refusal : ℕ) → opening f c k n 0 ≡ refuses refusal → decisive_call f c k n r ≡ refuses refusal
   unfolding opening opening_rules decisive_call judge
-  settings_refused e = go (eqb n (replicas s₀)) refl (ltb largest n) e
+  settings_refused refusal e = go (eqb n (replicas s₀)) refl (ltb largest n) e
     where
       go : (p : Bool) → eqb n (replicas s₀) ≡ p → (q : Bool)
-          → cond (not p) (refuses 1) (cond q (refuses 1) (cond (leb n 0) (refuses 1) (accepts s₀))) ≡ refuses 1
-          → cond (not p) (refuses 1) (cond q (refuses 1) (judge (record_rules s₀ n r) (decisive s₀ (timeouts_in r)))) ≡ refuses 1
-      go false x q h = refl
-      go true x true h = refl
+          → cond (not p) (refuses 1) (cond q (refuses 1) (cond (leb n 0) (refuses 1) (accepts s₀))) ≡ refuses refusal
+          → cond (not p) (refuses 1) (cond q (refuses 1) (judge (record_rules s₀ n r) (decisive s₀ (timeouts_in r)))) ≡ refuses refusal
+      go false x q h = ap refuses (let z : ◌≡◌ {A = ℕ} 1 refusal = cc in z)
+      go true x true h = ap refuses (let z : ◌≡◌ {A = ℕ} 1 refusal = cc in z)
       go true x false h =
           let m = eqb-true n (replicas s₀) x in
           let z : leb n 0 ≡ false = lt-leb n 0 (omega (arith, m)) in
-          let y : accepts s₀ ≡ refuses 1 = rw z at h in
+          let y : accepts s₀ ≡ refuses refusal = rw z at h in
           absurd (let w : ◌≡◌ {A = ℕ} 0 1 = cc in omega arith)

@@ -1,5 +1,7 @@
 -- What the call's reply says, and the timeouts that stand in a record beside one of them, as a list and as bytes. Assumes nothing.
-use Rattle.std.specs.Prelude.{ℕ, ◌+◌, ◌-◌, ◌*◌, true, false, List, map, ◌++◌, drop}
+use Rattle.std.specs.Prelude.{ℕ, ◌+◌, ◌-◌, ◌*◌, true, false, Option, Some, None, Result, Ok, Err, List, map, ◌++◌, drop}
+use Rattle.settings.specs.declared.refusal.Refusal.{Refusal}
+use Rattle.settings.specs.Refusal.{number}
 use Rattle.settings.specs.Answer.{Answer, accepts, refuses}
 use Rattle.codec.specs.Bytes.{part, patch}
 use Rattle.wire.specs.declared.Timeout.{Timeout}
@@ -13,6 +15,15 @@ unfoldable pub reply_of : Answer Whose → Decisive
 reply_of (accepts none) = record { refusal = 0; found = false; sender = 0 }
 reply_of (accepts (named i)) = record { refusal = 0; found = true; sender = i }
 reply_of (refuses a) = record { refusal = a; found = false; sender = 0 }
+
+-- what the code's results mean: a sender or none, or a refusal by its number
+abbrev pub whose_of : Option ℕ → Whose
+whose_of None = none
+whose_of (Some i) = named i
+
+unfoldable pub judged : Result (Option ℕ) Refusal → Answer Whose
+judged (Ok w) = accepts (whose_of w)
+judged (Err r) = refuses (number r)
 
 -- the first k timeouts behind a certificate's head
 abbrev pub first_timeouts : List ℕ → ℕ → List Timeout

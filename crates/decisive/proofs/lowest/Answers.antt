@@ -1,12 +1,10 @@
-use mathlib.Core.Path.{◌≡◌, sym, ap, ◌∙◌}
+use mathlib.Core.Path.{◌≡◌, sym}
 use Prim.Native.Nat.{◌≤◌}
 use lib.ListN.{length, drop}
-use Rattle.settings.specs.Answer.{accepts}
 use Rattle.settings.specs.Quorum.{timeout_quorum}
 use Rattle.wire.specs.Fields.{timeouts_head}
 use Rattle.certificate.proofs.Timeouts.{count_timeouts}
-use Rattle.decisive.specs.Decisive.{Whose}
-use Rattle.decisive.specs.Reply.{reply_of, first_timeouts}
+use Rattle.decisive.specs.Reply.{first_timeouts}
 use Rattle.decisive.proofs.Search.{none_of_few}
 use native.Mathlib.Omega.{arith}
 use Rattle.decisive.proofs.lowest.Goals as goal
@@ -16,7 +14,7 @@ returns-then-count-timeout_quorum c = let a = c.args in
     let t = first_timeouts a.rec.now a.count in
     let d : length t ≡ a.count = count_timeouts a.count (drop timeouts_head a.rec.now) in
     let q : a.count ≤ timeout_quorum a.s = omega (arith, c.if-count-timeout_quorum.true, c.timeout_quorum.ensures) in
-    c.none.ensures ∙ ap (λ (w : Whose). reply_of (accepts w)) (sym (none_of_few a.s t (omega (arith, d, q)) t (λ i x. x)))
+    sym (none_of_few a.s t (omega (arith, d, q)) t (λ i x. x))
 
 pub first_to_change-requires : goal.first_to_change-requires
 first_to_change-requires c = let p = c.requires in

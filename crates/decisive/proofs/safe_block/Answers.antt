@@ -3,10 +3,10 @@ use Rattle.certificate.specs.Safe.{safe_certificate}
 use native.Mathlib.Omega.{arith}
 use Rattle.decisive.proofs.safe_block.Goals as goal
 
-pub safe_certificate-k-requires : goal.safe_certificate-k-requires
+pub safe_certificate-requires : goal.safe_certificate-requires
 unfolding Within
-safe_certificate-k-requires c = let p = c.requires in (p.0, omega (arith, p.1))
+safe_certificate-requires c = let p = c.requires in (p.0, omega (arith, p.1))
 
 pub returns : goal.returns
 unfolding safe_certificate progress_means
-returns c = rw c.safe_certificate-k.ensures
+returns c = rw c.safe_certificate.ensures
