@@ -20,7 +20,7 @@ use Rattle.protocol.specs.Work.{view, send_vote, send_commit, send_timeout, own_
 use Rattle.protocol.proofs.call.Regular.{Regular}
 use Rattle.protocol.proofs.call.Actions.{own_timeout_fits}
 use Rattle.act.specs.declared.Draft.{Draft}
-use Rattle.act.specs.Draft.{work_of, Does, carried_by, timeout_by}
+use Rattle.act.specs.Draft.{work_of, Left, Does, send_ballot, carried_by, timeout_by}
 use Rattle.act.proofs.Steps.{empty_store, sent_at, sent_out, same_left}
 
 length_ballot : (k s v : ℕ) (x : List ℕ) → length x ≡ 32 → length (vote_bytes k s v x) ≡ 48
@@ -28,29 +28,31 @@ unfolding vote_bytes
 length_ballot k s v x h = simp (length-append, length_header, length-le_bytes, h)
 
 module _ (d : Draft) (m o : List ℕ) (v : ℕ) (x : List ℕ) (l : length x ≡ 32) (h : d.at + 48 ≤ length o) where
-  pub vote_does : {me row : ℕ} {m₁ o₁ : List ℕ} {c : Counters} → me ≡ own_of m → o₁ ≡ patch o d.at (vote_bytes 1 me v x) → row ≡ vote_row v
-      → m₁ ≡ keep m row (length x) me x → c ≡ voting d.counters (record { view = view v; name = x }) → Does (send_vote v x) d m o (record { counters = c; at = d.at + 48 }) m₁ o₁
-  unfolding send_vote keep_vote
-  vote_does {m₁ = m₁} {o₁ = o₁} {c = c} e p r k q =
-      let b = vote_bytes 1 (own_of m) v x in
-      let n : length b ≡ 48 = length_ballot 1 (own_of m) v x l in
+  pub ballot_does : {me : ℕ} {m₁ o₁ : List ℕ} (k row : ℕ) → me ≡ own_of m → o₁ ≡ patch o d.at (vote_bytes k me v x) → m₁ ≡ keep m row (length x) me x
+      → Does (send_ballot k row v x) d m o (record { counters = d.counters; at = d.at + 48 }) m₁ o₁
+  unfolding send_ballot
+  ballot_does {m₁ = m₁} {o₁ = o₁} k row e p q =
+      let b = vote_bytes k (own_of m) v x in
+      let n : length b ≡ 48 = length_ballot k (own_of m) v x l in
       let f : d.at + length b ≤ length o = omega arith in
       record {
-        leaves = λ s. same_left (record { counters = c; at = d.at + 48 }) m₁ o₁ s (send_vote v x (work_of d m o s)) o q
-            (ap (λ (i : ℕ). d.at + i) (sym n) ∙ sent_at o d.at b f) (k ∙ rw (e, r, l)) (p ∙ rw e (sent_out o d.at b f)) refl;
+        leaves = λ s. same_left (record { counters = d.counters; at = d.at + 48 }) m₁ o₁ s (send_ballot k row v x (work_of d m o s)) o refl
+            (ap (λ (i : ℕ). d.at + i) (sym n) ∙ sent_at o d.at b f) (q ∙ rw (e, l)) (p ∙ rw e (sent_out o d.at b f)) refl;
       }
 
-  pub commit_does : {me row : ℕ} {m₁ o₁ : List ℕ} → me ≡ own_of m → o₁ ≡ patch o d.at (vote_bytes 2 me v x) → row ≡ commit_row v
-      → m₁ ≡ keep m row (length x) me x → Does (send_commit v x) d m o (record { counters = d.counters; at = d.at + 48 }) m₁ o₁
-  unfolding send_commit keep_commit
-  commit_does {m₁ = m₁} {o₁ = o₁} e p r k =
-      let b = vote_bytes 2 (own_of m) v x in
-      let n : length b ≡ 48 = length_ballot 2 (own_of m) v x l in
-      let f : d.at + length b ≤ length o = omega arith in
-      record {
-        leaves = λ s. same_left (record { counters = d.counters; at = d.at + 48 }) m₁ o₁ s (send_commit v x (work_of d m o s)) o refl
-            (ap (λ (i : ℕ). d.at + i) (sym n) ∙ sent_at o d.at b f) (k ∙ rw (e, r, l)) (p ∙ rw e (sent_out o d.at b f)) refl;
-      }
+module _ {d d' : Draft} {m o m' o' : List ℕ} (v : ℕ) (x : List ℕ) where
+  -- a vote is made the high vote too
+  pub vote_does : {row : ℕ} {c : Counters} → row ≡ vote_row v → Does (send_ballot 1 row v x) d m o d' m' o'
+      → c ≡ voting d'.counters (record { view = view v; name = x }) → Does (send_vote v x) d m o (record { counters = c; at = d'.at }) m' o'
+  unfolding send_ballot send_vote keep_vote
+  vote_does {row = row} {c = c} r h q = record {
+    leaves = λ s. ap (λ (l : Left). record { counters = c; at = l.at; memory = l.memory; output = l.output; store = l.store }) (h.leaves s)
+        ∙ rw (q, ap (λ (l : Left). l.counters) (h.leaves s), r);
+  }
+
+  pub commit_does : {row : ℕ} → row ≡ commit_row v → Does (send_ballot 2 row v x) d m o d' m' o' → Does (send_commit v x) d m o d' m' o'
+  unfolding send_ballot send_commit keep_commit
+  commit_does {row = row} r h = record { leaves = λ s. rw (← r) (h.leaves s) }
 
 -- the part that is lent, `&out[at..at + k]`, has at most k bytes
 pub lent_most : (s : List ℕ) (at k : ℕ) → length (take (at + k - at) (drop at s)) ≤ k

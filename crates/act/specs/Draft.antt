@@ -1,15 +1,18 @@
 -- How a draft (counters so far, bytes written so far), the lent memory and the output region stand for a replica at work (`Work` of protocol), whatever
 -- its store is; and what has to hold of them before a step. Assumes nothing.
 use Rattle.std.specs.Prelude.{ℕ, ◌+◌, ◌≤◌, ◌≡◌, true, cond, List, [], ◌++◌, length, take, drop}
+use Rattle.codec.specs.Names.{name_length}
+use Rattle.wire.specs.Encode.{vote_bytes}
 use Rattle.wire.specs.declared.Carried.{Carried}
 use Rattle.wire.specs.declared.Timeout.{Timeout}
 use Rattle.certificate.specs.declared.Certificate.{Certificate}
 use Rattle.certificate.specs.Rank.{highest}
 use Rattle.blocks.specs.declared.Block.{Block}
 use Rattle.memory.specs.Layout.{memory_length}
+use Rattle.memory.specs.Kept.{keep}
 use Rattle.counters.specs.declared.Counters.{Counters}
 use Rattle.counters.specs.Counters.{locks_of}
-use Rattle.protocol.specs.Work.{Work, view}
+use Rattle.protocol.specs.Work.{Work, view, own, send, with_memory}
 use Rattle.protocol.specs.Refusals.{regular}
 use Rattle.act.specs.declared.Draft.{Draft}
 
@@ -41,6 +44,12 @@ pub record Ready (d : Draft) (m o : List ℕ) (size : ℕ) : Type 0 where
   pub long : memory_length ≤ length m
   pub regular : regular (work_of d m o []) ≡ true
   pub room : d.at + size ≤ length o
+
+-- ---- a vote or a commit, by its kind's number: it is sent, and kept in a row
+unfoldable pub send_ballot : ℕ → ℕ → ℕ → List ℕ → Work → Work
+send_ballot kind row v x W =
+    let W₁ = send W (vote_bytes kind (own W) v x) in
+    with_memory W₁ (keep W.memory row name_length (own W) x)
 
 -- ---- own timeout, by the counters alone: `own_timeout` of protocol
 unfoldable pub carried_by : Certificate → Carried

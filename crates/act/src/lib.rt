@@ -6,10 +6,13 @@
 
 pub mod progress;
 
-ghost use Rattle.std.specs.Prelude.{◌≡◌};
+ghost use Rattle.std.specs.Prelude.{◌≡◌, ◌+◌, ◌≤◌};
+ghost use Rattle.codec.specs.Names.{name_length};
+ghost use Rattle.wire.specs.Kinds.{number};
 ghost use Rattle.wire.specs.Fields.{vote_length, timeout_length};
+ghost use Rattle.memory.specs.Layout.{memory_length, row_size};
 ghost use Rattle.protocol.specs.Work.{send_vote, send_commit, send_timeout};
-ghost use Rattle.act.specs.Draft.{Does, Ready, carried_by, timeout_by};
+ghost use Rattle.act.specs.Draft.{Does, Ready, send_ballot, carried_by, timeout_by};
 
 use certificate::Certificate;
 use counters::{Counters, locks, timing, voting};
@@ -17,7 +20,7 @@ use memory::kept::{commit_row, keep, timeout_row, vote_row};
 use memory::own;
 use settings::View;
 use wire::write::{put_timeout, put_vote};
-use wire::{Carried, Timeout, Vote, length};
+use wire::{Carried, Kind, Timeout, Vote, length};
 
 // The counters so far in a call, and how many bytes it has written.
 #[derive(Clone, Copy)]
@@ -26,20 +29,37 @@ pub struct Draft {
     pub at: usize,
 }
 
+// A vote or a commit is written, and kept in a row.
+fn send_ballot(
+    mem: &mut [u8],
+    out: &mut [u8],
+    d: Draft,
+    kind: Kind,
+    row: usize,
+    vote: Vote,
+) -> Draft
+    requires { Ready d mem.old out.old vote_length × (row + row_size name_length ≤ memory_length) }
+    ensures { Does (send_ballot (number kind) row vote.view.0 vote.name) d mem.old out.old result mem.new out.new }
+{
+    let me = own(mem);
+    put_vote(out, d.at, kind, me, vote);
+    keep(mem, row, me as usize, &vote.name);
+    Draft {
+        at: d.at + length::VOTE,
+        ..d
+    }
+}
+
 // A vote is written, kept, and made the high vote.
 pub fn send_vote(mem: &mut [u8], out: &mut [u8], d: Draft, view: View, name: [u8; 32]) -> Draft
     requires { Ready d mem.old out.old vote_length }
     ensures { Does (send_vote view.0 name) d mem.old out.old result mem.new out.new }
 {
-    let me = own(mem);
     let vote = Vote { view, name };
-    let counters = d.counters;
-    let at = d.at;
-    put_vote(out, at, 1, me, vote);
-    keep(mem, vote_row(view), me as usize, &name);
+    let sent = send_ballot(mem, out, d, Kind::Vote, vote_row(view), vote);
     Draft {
-        counters: voting(counters, vote),
-        at: at + length::VOTE,
+        counters: voting(sent.counters, vote),
+        ..sent
     }
 }
 
@@ -47,50 +67,44 @@ pub fn send_commit(mem: &mut [u8], out: &mut [u8], d: Draft, view: View, name: [
     requires { Ready d mem.old out.old vote_length }
     ensures { Does (send_commit view.0 name) d mem.old out.old result mem.new out.new }
 {
-    let me = own(mem);
-    let vote = Vote { view, name };
-    let counters = d.counters;
-    let at = d.at;
-    put_vote(out, at, 2, me, vote);
-    keep(mem, commit_row(view), me as usize, &name);
-    Draft {
-        counters,
-        at: at + length::VOTE,
-    }
+    send_ballot(
+        mem,
+        out,
+        d,
+        Kind::Commit,
+        commit_row(view),
+        Vote { view, name },
+    )
 }
 
-// What a timeout carries: kind 3 for a block certificate, 4 for a weak one.
+// What a timeout carries, by its kind.
+#[tactic(auto, unfolding(crate::specs::Draft::carried_by))]
 fn carried(k: Certificate) -> Carried
     ensures { result ≡ carried_by k }
 {
-    let view = k.view;
+    let kind = if k.block {
+        Kind::BlockCertificate
+    } else {
+        Kind::WeakCertificate
+    };
     let name = k.name;
-    let signers = k.signers;
-    if k.block {
-        return Carried {
-            kind: 3,
-            view,
-            name,
-            signers,
-        };
-    }
     Carried {
-        kind: 4,
-        view,
+        kind: kind.into(),
+        view: k.view,
         name,
-        signers,
+        signers: k.signers,
     }
 }
 
 // Own timeout of a view: the high vote, and the higher of lock and best weak.
+#[tactic(auto, unfolding(crate::specs::Draft::timeout_by))]
 fn own_timeout(c: Counters, me: u16, view: View) -> Timeout
     ensures { result ≡ timeout_by c me view.0 }
 {
-    let high = c.high;
     Timeout {
         sender: me,
         view,
-        high,
+        high: c.high,
         carried: carried(locks(c).highest()),
     }
 }
@@ -101,17 +115,15 @@ pub fn send_timeout(mem: &mut [u8], out: &mut [u8], d: Draft, view: View) -> Dra
     ensures { Does (send_timeout view.0) d mem.old out.old result mem.new out.new }
 {
     let me = own(mem);
-    let counters = d.counters;
-    let at = d.at;
-    put_timeout(out, at, own_timeout(counters, me, view));
+    put_timeout(out, d.at, own_timeout(d.counters, me, view));
     keep(
         mem,
         timeout_row(view),
         me as usize,
-        &out[at..at + length::TIMEOUT],
+        &out[d.at..d.at + length::TIMEOUT],
     );
     Draft {
-        counters: timing(counters, view),
-        at: at + length::TIMEOUT,
+        counters: timing(d.counters, view),
+        at: d.at + length::TIMEOUT,
     }
 }

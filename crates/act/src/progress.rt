@@ -23,6 +23,7 @@ use settings::View;
 use wire::{BlockCertificate, Progress};
 
 // The safe certificate of a certificate's record is adopted.
+#[tactic(auto, using(crate::proofs::Advancing::form_stands))]
 pub fn adopt_safe(mem: &[u8], c: Counters, rec: &[u8]) -> Counters
     requires { (memory_length ≤ length mem.now) × ((replicas (settings_of mem.now) ≤ largest) × HasForm (replicas (settings_of mem.now)) rec.now) }
     ensures { result ≡ adopting c (safe_certificate (settings_of mem.now) (certificate_of rec.now)) }
@@ -32,33 +33,30 @@ pub fn adopt_safe(mem: &[u8], c: Counters, rec: &[u8]) -> Counters
 }
 
 // The record of so many bytes that stands behind what is written is adopted and becomes part of what is written, and the view after it is entered.
+#[tactic(auto, using(crate::proofs::Advancing::form_stands))]
 fn advance(mem: &mut [u8], out: &[u8], d: Draft, size: usize) -> Draft
     requires { InOutput d mem.old out.now size }
     ensures { Does (advance (part out.now d.at size)) d mem.old out.now result mem.new out.now }
 {
-    let at = d.at;
-    let old = d.counters;
-    let counters = adopt_safe(mem, old, &out[at..at + size]);
-    let next = View(u64_at(out, at + 8) + 1);
+    let counters = adopt_safe(mem, d.counters, &out[d.at..d.at + size]);
+    let next = View(u64_at(out, d.at + 8) + 1);
     enter(mem, counters.view, next);
-    put_entry(mem, &out[at..at + size]);
+    put_entry(mem, &out[d.at..d.at + size]);
     Draft {
         counters: entering(counters, next),
-        at: at + size,
+        at: d.at + size,
     }
 }
 
 // Behind a block certificate that stands in the output: a commit for its view and name, unless that view is timed.
+#[tactic(auto, unfolding(wire::specs::Content::Within))]
 fn commit_after(mem: &mut [u8], out: &mut [u8], d: Draft, b: BlockCertificate) -> Draft
     requires { Ready d mem.old out.old vote_length × Within out.old (Block b) }
     ensures { Does (commit_after (progress_means out.old (Block b))) d mem.old out.old result mem.new out.new }
 {
-    let c = d.counters;
-    let view = b.view;
-    let at = b.place;
-    if c.timed.0 < view.0 {
-        let name = name_at(out, at + 16);
-        return send_commit(mem, out, d, view, name);
+    if d.counters.timed < b.view {
+        let name = name_at(out, b.place + 16);
+        return send_commit(mem, out, d, b.view, name);
     }
     d
 }
@@ -77,19 +75,18 @@ pub fn act_on(mem: &mut [u8], out: &mut [u8], d: Draft, size: usize) -> Draft
 }
 
 // A certificate that came in: its record is forwarded with own as sender, or only adopted.
+#[tactic(auto, using(crate::proofs::Advancing::form_stands))]
 pub fn progress(mem: &mut [u8], out: &mut [u8], d: Draft, rec: &[u8]) -> Draft
     requires { Ready d mem.old out.old (certificate_room rec.now) × IsProgress (replicas (settings_of mem.old)) rec.now }
     ensures { Does (progress rec.now) d mem.old out.old result mem.new out.new }
 {
-    let counters = d.counters;
-    let at = d.at;
-    if u64_at(rec, 8) < counters.view.0 {
+    if View(u64_at(rec, 8)) < d.counters.view {
         return Draft {
-            counters: adopt_safe(mem, counters, rec),
-            at,
+            counters: adopt_safe(mem, d.counters, rec),
+            ..d
         };
     }
-    put(out, at, rec);
-    put_u16(out, at + 6, own(mem));
+    put(out, d.at, rec);
+    put_u16(out, d.at + 6, own(mem));
     act_on(mem, out, d, rec.len())
 }

@@ -1,32 +1,33 @@
 -- The relation `Gives` between an event in code and in the definitions: after a step, before a step, and where no block is new. Assumes nothing.
 use Prim.Native.Nat.{ℕ, ◌+◌, ◌≤◌, ◌<◌, ◌^◌}
-use native.Mathlib.Omega.{arith}
-use mathlib.Core.Path.{◌≡◌, ap, ◌∙◌}
+use mathlib.Core.Path.{◌≡◌, refl, ap, ◌∙◌}
 use mathlib.Core.List.{List}
-use lib.ListN.{length, set}
-use lib.Seq.{set_out}
+use Rattle.std.specs.Prelude.{Option, Some, None}
+use lib.ListN.{length, length-set}
 use Rattle.blocks.specs.declared.Block.{Block}
 use Rattle.protocol.specs.Work.{Work}
 use Rattle.act.specs.declared.Draft.{Draft}
 use Rattle.protocol.proofs.call.Regular.{Regular}
-use Rattle.act.specs.Draft.{work_of, left, left_by, Does, Ready}
+use Rattle.act.specs.Draft.{work_of, left_by, Does, Ready}
 use Rattle.act.proofs.Steps.{Longer, left_then, work_again, regular_ready}
 use Rattle.event.specs.declared.Event.{Event}
-use Rattle.event.specs.Event.{Gives, nowhere}
+use Rattle.event.specs.declared.Placed.{Placed}
+use Rattle.event.specs.Event.{Gives, filled}
 
-pub set-nowhere : (s : List Block) (b : Block) → length s < 2 ^ 64 → set s nowhere b ≡ s
-set-nowhere s b h = set_out s nowhere b (omega arith)
+-- a block that is filled in changes no length
+pub length_filled : (s : List Block) (p : Option Placed) → length (filled s p) ≡ length s
+length_filled s None = refl
+length_filled s (Some p) = length-set s p.place p.block
 
 -- an event by its parts
-pub gives_parts : (f : Work → Work) (given : Work → Type 0) {d d₁ : Draft} {m m₁ o o₁ : List ℕ} {p : ℕ} {b : Block} {e : Event} → e.draft ≡ d₁ → e.place ≡ p → e.block ≡ b
-    → Gives f given d m o (record { draft = d₁; place = p; block = b }) m₁ o₁ → Gives f given d m o e m₁ o₁
-gives_parts f given x y z a = record { leaves = λ s l g. rw (x, y, z) (a.leaves s l g) }
+pub gives_parts : (f : Work → Work) (given : Work → Type 0) {d d₁ : Draft} {m m₁ o o₁ : List ℕ} {p : Option Placed} {e : Event} → e.draft ≡ d₁ → e.placed ≡ p
+    → Gives f given d m o (record { draft = d₁; placed = p }) m₁ o₁ → Gives f given d m o e m₁ o₁
+gives_parts f given x y a = record { leaves = λ s l g. rw (x, y) (a.leaves s l g) }
 
 -- a step, and no new block
-pub gives_none : (f : Work → Work) (given : Work → Type 0) {d d₁ : Draft} {m m₁ o o₁ : List ℕ} {e : Event} → (e.draft ≡ d₁) × (e.place ≡ nowhere) → Does f d m o d₁ m₁ o₁
+pub gives_none : (f : Work → Work) (given : Work → Type 0) {d d₁ : Draft} {m m₁ o o₁ : List ℕ} {e : Event} → e ≡ record { draft = d₁; placed = None } → Does f d m o d₁ m₁ o₁
     → Gives f given d m o e m₁ o₁
-gives_none f given {d₁ = d₁} {m₁ = m₁} {o₁ = o₁} {e = e} x a =
-    record { leaves = λ s l g. rw (x.0, x.1) (ap (left d₁ m₁ o₁) (set-nowhere s e.block l) ∙ a.leaves s) }
+gives_none f given x a = record { leaves = λ s l g. rw x (a.leaves s) }
 
 -- more is given
 pub gives_given : (f : Work → Work) (given given₁ : Work → Type 0) {d : Draft} {m m₁ o o₁ : List ℕ} {e : Event} → ((s : List Block) → given₁ (work_of d m o s) → given (work_of d m o s))
@@ -46,18 +47,18 @@ does_gives f g given given₁ {d} {m = m} {o = o} a b h longer =
     record { leaves = λ s l x. let W₁ = f (work_of d m o s) in left_then g W₁ o (a.leaves s) (b.leaves s l (h s x)) (longer W₁) }
 
 -- a step behind an event
-pub gives_then : (f g : Work → Work) (given : Work → Type 0) {d d₁ d₂ : Draft} {m m₁ m₂ o o₁ o₂ : List ℕ} {p : ℕ} {b : Block}
-    → Gives f given d m o (record { draft = d₁; place = p; block = b }) m₁ o₁ → Does g d₁ m₁ o₁ d₂ m₂ o₂ → ((W : Work) → Longer W (g W))
-    → Gives (λ W. g (f W)) given d m o (record { draft = d₂; place = p; block = b }) m₂ o₂
-gives_then f g given {d} {m = m} {o = o} {p = p} {b = b} a c longer =
-    record { leaves = λ s l x. let W₁ = f (work_of d m o s) in left_then g W₁ o (a.leaves s l x) (c.leaves (set s p b)) (longer W₁) }
+pub gives_then : (f g : Work → Work) (given : Work → Type 0) {d d₁ d₂ : Draft} {m m₁ m₂ o o₁ o₂ : List ℕ} {p : Option Placed}
+    → Gives f given d m o (record { draft = d₁; placed = p }) m₁ o₁ → Does g d₁ m₁ o₁ d₂ m₂ o₂ → ((W : Work) → Longer W (g W))
+    → Gives (λ W. g (f W)) given d m o (record { draft = d₂; placed = p }) m₂ o₂
+gives_then f g given {d} {m = m} {o = o} {p = p} a c longer =
+    record { leaves = λ s l x. let W₁ = f (work_of d m o s) in left_then g W₁ o (a.leaves s l x) (c.leaves (filled s p)) (longer W₁) }
 
 -- ---- for the caller, at the store that it has
 module _ (f : Work → Work) (given : Work → Type 0) {d : Draft} {m m₁ o o₁ : List ℕ} {e : Event} (a : Gives f given d m o e m₁ o₁) (s : List Block) (l : length s < 2 ^ 64) (g : given (work_of d m o s)) where
   -- the replica at work once the block is filled in
-  pub gives_work : work_of e.draft m₁ o₁ (set s e.place e.block) ≡ f (work_of d m o s)
-  gives_work = work_again e.draft m₁ o₁ (set s e.place e.block) (f (work_of d m o s)) o (a.leaves s l g)
+  pub gives_work : work_of e.draft m₁ o₁ (filled s e.placed) ≡ f (work_of d m o s)
+  gives_work = work_again e.draft m₁ o₁ (filled s e.placed) (f (work_of d m o s)) o (a.leaves s l g)
 
   -- and what is ready for the rules
   pub gives_ready : (k : ℕ) → Regular (f (work_of d m o s)) → length (f (work_of d m o s)).out + k ≤ length o → Ready e.draft m₁ o₁ k
-  gives_ready k R h = regular_ready e.draft m₁ o₁ (set s e.place e.block) (f (work_of d m o s)) o k (a.leaves s l g) R h
+  gives_ready k R h = regular_ready e.draft m₁ o₁ (filled s e.placed) (f (work_of d m o s)) o k (a.leaves s l g) R h

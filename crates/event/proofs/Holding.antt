@@ -4,7 +4,8 @@ use native.Mathlib.Omega.{arith}
 use mathlib.Core.Path.{◌≡◌, refl, sym, ap, ◌∙◌}
 use mathlib.Core.Bool.{Bool, true, false, cond, ◌&&◌}
 use mathlib.Core.List.{List}
-use borrow.Author.Tests.{lt-ltb, le-ltb, eq-eqb, ne_eqb}
+use Rattle.std.specs.Prelude.{Option, Some, None}
+use borrow.Author.Tests.{eq-eqb, ne_eqb}
 use lib.Dec.{ltb}
 use lib.ListN.{length, take, set, length-append}
 use lib.Seq.{length-take-le}
@@ -30,21 +31,22 @@ use Rattle.act.specs.Draft.{work_of, Left, left, left_by, Does, Ready}
 use Rattle.act.proofs.Steps.{empty_store, Longer, does_nothing, regular_ready, ready_next}
 use Rattle.act.proofs.Advancing.{longer_if, adopt_safe, adopt_does}
 use Rattle.event.specs.declared.Event.{Event}
-use Rattle.event.specs.Event.{Gives, nowhere, HeldIs, place_for, counted_in, HasRoom, hold_vote}
-use Rattle.event.proofs.Giving.{set-nowhere, gives_same, does_gives, gives_then}
+use Rattle.event.specs.declared.Placed.{Placed}
+use Rattle.event.specs.Event.{Gives, filled, HeldIs, placed_for, counted_in, HasRoom, hold_vote}
+use Rattle.event.proofs.Giving.{gives_same, does_gives, gives_then}
 
 -- ---- the block is held
 module _ (d : Draft) (m o : List ℕ) (b : Block) (t : Bool) (h : d.at ≤ length o) where
-  pub hold_gives : {p : ℕ} {m₁ : List ℕ} → (p ≡ place_for m t) × (m₁ ≡ counted_in m t) → Gives (λ W. hold W b) (HeldIs b.name t) d m o (record { draft = d; place = p; block = b }) m₁ o
-  unfolding hold place_for counted_in
+  pub hold_gives : {p : Option Placed} {m₁ : List ℕ} → (p ≡ placed_for m b t) × (m₁ ≡ counted_in m t) → Gives (λ W. hold W b) (HeldIs b.name t) d m o (record { draft = d; placed = p }) m₁ o
+  unfolding hold placed_for counted_in
   hold_gives {p} {m₁} e = record { leaves = λ s l x. by s t l x e.0 e.1 }
     where
       at_is : (s : List Block) → d.at ≡ length (take d.at o)
       at_is s = sym (length-take-le d.at o h)
 
-      by : (s : List Block) (t : Bool) → length s < 2 ^ 64 → (held_block (work_of d m o s) b.name).is ≡ t → p ≡ cond t nowhere (block_count_of m)
-          → m₁ ≡ cond t m (with_block_count m (block_count_of m + 1)) → left d m₁ o (set s p b) ≡ left_by (hold (work_of d m o s) b) o
-      by s true l x q r = rw (x, q, r, set-nowhere s b l) ((does_nothing d m o h).leaves s)
+      by : (s : List Block) (t : Bool) → length s < 2 ^ 64 → (held_block (work_of d m o s) b.name).is ≡ t → p ≡ cond t None (Some (record { place = block_count_of m; block = b }))
+          → m₁ ≡ cond t m (with_block_count m (block_count_of m + 1)) → left d m₁ o (filled s p) ≡ left_by (hold (work_of d m o s) b) o
+      by s true l x q r = rw (x, q, r) ((does_nothing d m o h).leaves s)
       by s false l x q r = rw (x, q, r) (ap (λ (z : Left). record { counters = z.counters; at = z.at; memory = with_block_count m (block_count_of m + 1); output = z.output; store = set s (block_count_of m) b }) ((does_nothing d m o h).leaves s))
 
 -- the counters stay
@@ -103,30 +105,24 @@ module _ (d : Draft) (m o : List ℕ) (t : Bool) (k : ℕ) (a : Ready d m o k) (
   hold_ready e = rw e counted
 
 -- ---- "hold the block; ... vote for it"
-module _ (d : Draft) (m o : List ℕ) (v : ℕ) (b : Block) (t : Bool) (h : d.at ≤ length o) {p : ℕ} {m₁ : List ℕ} (e : (p ≡ place_for m t) × (m₁ ≡ counted_in m t)) where
+module _ (d : Draft) (m o : List ℕ) (v : ℕ) (b : Block) (t : Bool) (h : d.at ≤ length o) {p : Option Placed} {m₁ : List ℕ} (e : (p ≡ placed_for m b t) × (m₁ ≡ counted_in m t)) where
   timed_is : (s : List Block) → timed (hold (work_of d m o s) b) ≡ d.counters.timed.0
   timed_is s = ap (λ (c : Counters). c.timed.0) (hold-counters (work_of d m o s) b)
 
   high_is : (s : List Block) → high_vote_view (hold (work_of d m o s) b) ≡ d.counters.high.view.0
   high_is s = ap (λ (c : Counters). c.high.view.0) (hold-counters (work_of d m o s) b)
 
-  pub held_only : ltb d.counters.timed.0 v && ltb d.counters.high.view.0 v ≡ false
-      → Gives (hold_vote v b) (HeldIs b.name t) d m o (record { draft = d; place = p; block = b }) m₁ o
-  unfolding hold_vote
-  held_only x = gives_same (λ W. hold W b) (hold_vote v b) (HeldIs b.name t) (λ s l g. sym (rw (timed_is s, high_is s, x))) (hold_gives d m o b t h e)
+  module _ {voting : Bool} (x : voting ≡ (ltb d.counters.timed.0 v && ltb d.counters.high.view.0 v)) where
+    pub held_only : voting ≡ false → Gives (hold_vote v b) (HeldIs b.name t) d m o (record { draft = d; placed = p }) m₁ o
+    unfolding hold_vote
+    held_only y = gives_same (λ W. hold W b) (hold_vote v b) (HeldIs b.name t) (λ s l g. sym (rw (timed_is s, high_is s, ← x, y))) (hold_gives d m o b t h e)
 
-  pub held_timed : v ≤ d.counters.timed.0 → Gives (hold_vote v b) (HeldIs b.name t) d m o (record { draft = d; place = p; block = b }) m₁ o
-  held_timed x = held_only (rw (le-ltb _ _ x))
-
-  pub held_voted : d.counters.timed.0 < v → v ≤ d.counters.high.view.0 → Gives (hold_vote v b) (HeldIs b.name t) d m o (record { draft = d; place = p; block = b }) m₁ o
-  held_voted x y = held_only (rw (lt-ltb _ _ x, le-ltb _ _ y))
-
-  pub held_and_voted : {d₂ : Draft} {m₂ o₂ : List ℕ} → d.counters.timed.0 < v → d.counters.high.view.0 < v → Does (send_vote v b.name) d m₁ o d₂ m₂ o₂
-      → Gives (hold_vote v b) (HeldIs b.name t) d m o (record { draft = d₂; place = p; block = b }) m₂ o₂
-  unfolding hold_vote
-  held_and_voted x y a =
-      gives_same (λ W. send_vote v b.name (hold W b)) (hold_vote v b) (HeldIs b.name t) (λ s l g. sym (rw (timed_is s, high_is s, lt-ltb _ _ x, lt-ltb _ _ y)))
-      (gives_then (λ W. hold W b) (send_vote v b.name) (HeldIs b.name t) (hold_gives d m o b t h e) a (vote_longer v b.name))
+    pub held_and_voted : {d₂ : Draft} {m₂ o₂ : List ℕ} → voting ≡ true → Does (send_vote v b.name) d m₁ o d₂ m₂ o₂
+        → Gives (hold_vote v b) (HeldIs b.name t) d m o (record { draft = d₂; placed = p }) m₂ o₂
+    unfolding hold_vote
+    held_and_voted y a =
+        gives_same (λ W. send_vote v b.name (hold W b)) (hold_vote v b) (HeldIs b.name t) (λ s l g. sym (rw (timed_is s, high_is s, ← x, y)))
+        (gives_then (λ W. hold W b) (send_vote v b.name) (HeldIs b.name t) (hold_gives d m o b t h e) a (vote_longer v b.name))
 
 -- ---- a proposal
 pub tip_adopted : (c : Counters) (k : Certificate) {c₁ : Counters} → c₁ ≡ adopting c k → c₁.tip ≡ c.tip

@@ -11,7 +11,7 @@ use Rattle.settings.specs.Quorum.{last_view}
 use Rattle.codec.specs.Bytes.{IsBytes}
 use Rattle.codec.proofs.Order.{and_true}
 use Rattle.wire.specs.Fields.{kind_of, sender_of, view_of, name_of, progress_of, block_name_of, release_height_of}
-use Rattle.wire.specs.Content.{Certificate, by_block, by_timeouts, certificate_of, Content, vote, commit, certificate, timeout, proposal, block, release, content, timeout_of}
+use Rattle.wire.specs.Content.{Certificate, by_block, by_timeouts, certificate_of, Content, certificate, timeout, release, content, timeout_of}
 use Rattle.wire.specs.Encode.{encode}
 use Rattle.wire.specs.Fit.{Fits, Proper}
 use Rattle.wire.specs.Shape.{shape_rules}

@@ -1,5 +1,5 @@
 -- What an event leaves: a draft, and a block with its place in the store, for the caller to fill in; and what has to hold before. Assumes nothing.
-use Rattle.std.specs.Prelude.{ℕ, ◌+◌, ◌-◌, ◌^◌, ◌<◌, ◌≡◌, Bool, false, cond, ◌&&◌, List, ◌++◌, ltb, length, set}
+use Rattle.std.specs.Prelude.{ℕ, ◌+◌, ◌^◌, ◌<◌, ◌≡◌, Bool, false, cond, ◌&&◌, List, ◌++◌, Option, Some, None, ltb, length, set}
 use Rattle.settings.specs.declared.Settings.{Settings}
 use Rattle.settings.specs.Quorum.{replicas}
 use Rattle.codec.specs.Bytes.{le_bytes}
@@ -17,16 +17,18 @@ use Rattle.act.specs.declared.Draft.{Draft}
 use Rattle.act.specs.Draft.{work_of, left, left_by}
 use Rattle.act.specs.Progress.{IsProgress}
 use Rattle.event.specs.declared.Event.{Event}
+use Rattle.event.specs.declared.Placed.{Placed}
 
--- THE RELATION: from the draft d, memory m and region o an event leaves what f says, for every store of which `given` holds, once the block is
--- filled in at its place. A lent store has less than 2^64 entries
+-- a store in which a new block is filled in at its place, where there is one
+abbrev pub filled : List Block → Option Placed → List Block
+filled s None = s
+filled s (Some p) = set s p.place p.block
+
+-- THE RELATION: from the draft d, memory m and region o an event leaves what f says, for every store of which `given` holds, once a new block is
+-- filled in. A lent store has less than 2^64 entries
 pub record Gives (f : Work → Work) (given : Work → Type 0) (d : Draft) (m o : List ℕ) (e : Event) (m' o' : List ℕ) : Type 0 where
   pub leaves : (s : List Block) → length s < 2 ^ 64 → given (work_of d m o s)
-      → left e.draft m' o' (set s e.place e.block) ≡ left_by (f (work_of d m o s)) o
-
--- a place past the end of every store: filling a block in there does nothing
-abbrev pub nowhere : ℕ
-nowhere = 2 ^ 64 - 1
+      → left e.draft m' o' (filled s e.placed) ≡ left_by (f (work_of d m o s)) o
 
 -- what may be given of the store: nothing; whether a block of a name is held
 abbrev pub Always : Work → Type 0
@@ -35,9 +37,9 @@ Always W = Unit {0}
 abbrev pub HeldIs : List ℕ → Bool → Work → Type 0
 HeldIs x t W = (held_block W x).is ≡ t
 
--- ---- "hold the block": the next place for a new one, and the number of held blocks
-unfoldable pub place_for : List ℕ → Bool → ℕ
-place_for m t = cond t nowhere (block_count_of m)
+-- ---- "hold the block": a new one at the next place, and the number of held blocks
+unfoldable pub placed_for : List ℕ → Block → Bool → Option Placed
+placed_for m b t = cond t None (Some (record { place = block_count_of m; block = b }))
 
 unfoldable pub counted_in : List ℕ → Bool → List ℕ
 counted_in m t = cond t m (with_block_count m (block_count_of m + 1))

@@ -14,9 +14,8 @@ ghost use Rattle.act.specs.Draft.{Ready};
 ghost use Rattle.act.specs.Progress.{HasForm};
 ghost use Rattle.event.specs.Event.{Gives, Always, safe_of_entry, own_proposal_bytes, Proposable, head_bytes};
 
-use crate::{Event, hold_and_vote, no_block};
+use crate::{Event, block_of, hold_and_vote, no_block};
 use act::{Draft, send_timeout};
-use blocks::Block;
 use certificate::Certificate;
 use certificate::safe::safe_certificate;
 use codec::num::put_u16;
@@ -53,19 +52,10 @@ fn put_own_proposal(mem: &[u8], out: &mut [u8], d: Draft, child: Child) -> usize
     requires { (memory_length ≤ length mem.now) × ((length (entry_of mem.now) ≤ entry_room) × (d.at + (proposal_head + entry_room) ≤ length out.old)) }
     ensures { (result ≡ d.at + (proposal_head + length (entry_of mem.now))) × (out.new ≡ patch out.old d.at (own_proposal_bytes mem.now d.counters.view.0 child)) }
 {
-    let at = d.at;
-    let c = d.counters;
-    let view = c.view;
     let size = entry_length(mem);
-    put_proposal(
-        out,
-        at,
-        own(mem),
-        view,
-        child,
-        &mem[ENTRY_PLACE..ENTRY_PLACE + size],
-    );
-    at + (length::PROPOSAL_HEAD + size)
+    let entry = &mem[ENTRY_PLACE..ENTRY_PLACE + size];
+    put_proposal(out, d.at, own(mem), d.counters.view, child, entry);
+    d.at + (length::PROPOSAL_HEAD + size)
 }
 
 // Propose: a block of that name is built on the safe block, whose height is handed in, sent, and taken as one's own.
@@ -73,26 +63,19 @@ pub fn on_propose(mem: &mut [u8], out: &mut [u8], d: Draft, name: [u8; 32], base
     requires { Ready d mem.old out.old (proposal_head + entry_room + vote_length) × ((base.0 < last_height) × (block_count_of mem.old < store_length)) }
     ensures { Gives (on_propose name) (Proposable name base.0) d mem.old out.old result mem.new out.new }
 {
-    let counters = d.counters;
-    let k = safe_of_entry(mem);
-    let parent = k.name;
-    let height = Height(base.0 + 1);
+    let safe = safe_of_entry(mem);
+    let parent = safe.name;
     let child = Child {
         name,
         parent,
-        height,
+        height: Height(base.0 + 1),
     };
     let at = put_own_proposal(mem, out, d, child);
     let next = Draft {
-        counters: adopting(counters, k),
+        counters: adopting(d.counters, safe),
         at,
     };
-    let block = Block {
-        name,
-        parent,
-        height,
-    };
-    hold_and_vote(mem, out, next, counters.view, block, false)
+    hold_and_vote(mem, out, next, d.counters.view, block_of(child), false)
 }
 
 // Settings and own number.

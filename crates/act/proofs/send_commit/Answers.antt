@@ -1,11 +1,5 @@
-use Rattle.act.proofs.Steps.{ready_facts}
 use Rattle.act.proofs.Sends.{commit_does}
-use borrow.Author.Rules.{rules}
-use native.Mathlib.Omega.{arith}
 use Rattle.act.proofs.send_commit.Goals as goal
 
-pub keep-requires : goal.keep-requires
-keep-requires c = let f = ready_facts _ _ _ c.requires in (omega (arith, c.commit_row.ensures), (search rules, (omega (arith, c.own-me.ensures, f.few, f.member), omega (arith, c.commit_row.ensures, c.requires.long))))
-
 pub returns : goal.returns
-returns c = let a = c.args in commit_does a.d _ _ a.view.0 a.name (search rules) c.requires.room c.own-me.ensures c.put_vote.ensures c.commit_row.ensures c.keep.ensures
+returns c = let a = c.args in commit_does a.view.0 a.name c.commit_row.ensures c.send_ballot.ensures

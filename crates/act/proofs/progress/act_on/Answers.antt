@@ -10,13 +10,13 @@ pub advance-next-requires : goal.advance-next-requires
 advance-next-requires c = c.requires
 
 pub commit_after-requires : goal.commit_after-requires
-commit_after-requires c = let i = c.requires in let a = c.args in let R = ready_regular a.d _ _ i.ready (search rules) (λ j. (c.slice_known-1.given j).fits) in
-    (block_ready _ _ _ _ i R (λ j. (c.slice_known-2-1.given j).fits) c.progress-certificate.ensures.0 c.advance-next.ensures c.in-Block.is, block_within _ _ _ _ i R (λ j. (c.slice_known-2-1.given j).fits) c.progress-certificate.ensures.0 c.advance-next.ensures c.in-Block.is)
+commit_after-requires c = let i = c.requires in let a = c.args in let R = ready_regular a.d _ _ i.ready (search rules) (search rules) in
+    (block_ready _ _ _ _ i R (search rules) c.progress-certificate.ensures.0 c.advance-next.ensures c.in-Block.is, block_within _ _ _ _ i R (search rules) c.progress-certificate.ensures.0 c.advance-next.ensures c.in-Block.is)
 
 pub returns-in-Block : goal.returns-in-Block
-returns-in-Block c = let i = c.requires in let a = c.args in let R = ready_regular a.d _ _ i.ready (search rules) (λ j. (c.slice_known-1.given j).fits) in
-    on_block_lem _ _ _ _ i R (λ j. (c.slice_known-2-1.given j).fits) c.progress-certificate.ensures.0 c.advance-next.ensures c.in-Block.is c.commit_after.ensures
+returns-in-Block c = let i = c.requires in let a = c.args in let R = ready_regular a.d _ _ i.ready (search rules) (search rules) in
+    on_block_lem _ _ _ _ i R (search rules) c.progress-certificate.ensures.0 c.advance-next.ensures c.in-Block.is c.commit_after.ensures
 
 pub returns-in-Timeouts : goal.returns-in-Timeouts
-returns-in-Timeouts c = let i = c.requires in let a = c.args in let R = ready_regular a.d _ _ i.ready (search rules) (λ j. (c.slice_known-1.given j).fits) in
-    on_timeouts _ _ _ _ i R (λ j. (c.slice_known-2-1.given j).fits) c.progress-certificate.ensures.0 c.advance-next.ensures c.in-Timeouts.is
+returns-in-Timeouts c = let i = c.requires in let a = c.args in let R = ready_regular a.d _ _ i.ready (search rules) (search rules) in
+    on_timeouts _ _ _ _ i R (search rules) c.progress-certificate.ensures.0 c.advance-next.ensures c.in-Timeouts.is

@@ -5,12 +5,6 @@ use Rattle.act.proofs.Advancing.{form_stands}
 use native.Mathlib.Omega.{arith}
 use Rattle.act.proofs.progress.adopt_safe.Goals as goal
 
-pub progress-certificate-requires : goal.progress-certificate-requires
-progress-certificate-requires c = let S = form_stands _ c.args.rec.now c.requires.1.1 in (S.head, S.block)
-
-pub settings-requires : goal.settings-requires
-settings-requires c = omega (arith, c.requires.0)
-
 pub safe_certificate-requires : goal.safe_certificate-requires
 safe_certificate-requires c = (omega (arith, c.requires.1.0, ap replicas c.settings.ensures), within c.args.rec.now 0 (form_stands _ c.args.rec.now c.requires.1.1) c.progress-certificate.ensures.0)
 

@@ -1,18 +1,11 @@
-use Rattle.wire.specs.Content.{Within}
+use Prim.Native.Nat.{◌≤◌, ◌<◌}
+use borrow.Author.Rules.{rules}
 use Rattle.act.proofs.Advancing.{commits, commits_not}
 use native.Mathlib.Omega.{arith}
 use Rattle.act.proofs.progress.commit_after.Goals as goal
 
-pub overflow_add-at : goal.overflow_add-at
-unfolding Within
-overflow_add-at c = omega (arith, c.requires.1)
-
-pub name_at-name-requires : goal.name_at-name-requires
-unfolding Within
-name_at-name-requires c = omega (arith, c.requires.1)
-
-pub returns-then-c-view : goal.returns-then-c-view
-returns-then-c-view c = let a = c.args in commits a.d _ _ a.b c.if-c-view.true c.name_at-name.ensures c.send_commit.ensures
+pub returns-then-lt : goal.returns-then-lt
+returns-then-lt c = let a = c.args in let h : a.d.counters.timed.0 < a.b.view.0 = search rules in commits a.d _ _ a.b h c.name_at-name.ensures c.send_commit.ensures
 
 pub returns : goal.returns
-returns c = let a = c.args in commits_not a.d _ _ a.b c.if-c-view.false (omega (arith, c.requires.0.room))
+returns c = let a = c.args in let h : a.b.view.0 ≤ a.d.counters.timed.0 = search rules in commits_not a.d _ _ a.b h (omega (arith, c.requires.0.room))

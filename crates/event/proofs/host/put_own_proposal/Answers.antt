@@ -11,17 +11,17 @@ entry_length-size-requires c = omega (arith, c.requires.0)
 pub own-requires : goal.own-requires
 own-requires c = omega (arith, c.requires.0)
 
-pub overflow_add-size : goal.overflow_add-size
-overflow_add-size c = omega (arith, c.entry_length-size.ensures, c.well_formed.0.0, entry_in c.args.mem.now c.requires.0 c.requires.1.0)
+pub overflow_add-entry : goal.overflow_add-entry
+overflow_add-entry c = omega (arith, c.entry_length-size.ensures, c.well_formed.0.0, entry_in c.args.mem.now c.requires.0 c.requires.1.0)
 
-pub slice_bounds-put_proposal-count : goal.slice_bounds-put_proposal-count
-slice_bounds-put_proposal-count c = omega arith
+pub slice_bounds-entry-count : goal.slice_bounds-entry-count
+slice_bounds-entry-count c = omega arith
 
-pub slice_bounds-put_proposal-start : goal.slice_bounds-put_proposal-start
-slice_bounds-put_proposal-start c = omega arith
+pub slice_bounds-entry-start : goal.slice_bounds-entry-start
+slice_bounds-entry-start c = omega arith
 
-pub slice_bounds-put_proposal-end : goal.slice_bounds-put_proposal-end
-slice_bounds-put_proposal-end c = omega (arith, c.entry_length-size.ensures, entry_in c.args.mem.now c.requires.0 c.requires.1.0)
+pub slice_bounds-entry-end : goal.slice_bounds-entry-end
+slice_bounds-entry-end c = omega (arith, c.entry_length-size.ensures, entry_in c.args.mem.now c.requires.0 c.requires.1.0)
 
 pub put_proposal-requires : goal.put_proposal-requires
 put_proposal-requires c = let l = ap length (entry_lent c.args.mem.now c.entry_length-size.ensures) in (omega (arith, l, c.requires.1), omega (arith, l, c.requires.1.0))

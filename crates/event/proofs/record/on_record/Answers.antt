@@ -1,59 +1,81 @@
-use mathlib.Core.Path.{sym, ◌∙◌}
+use mathlib.Core.Path.{◌≡◌, sym, ◌∙◌}
+use Rattle.wire.specs.Fields.{kind_of}
+use Rattle.wire.specs.Kinds.{NoKind}
 use Rattle.act.proofs.Steps.{ready_facts, ready_less}
 use Rattle.act.proofs.Advancing.{progress_room}
-use Rattle.event.proofs.Records.{vote_gives, commit_gives, timeout_gives, proposal_gives, block_gives, certificate_gives}
+use Rattle.event.proofs.Records.{vote_gives, commit_gives, timeout_gives, proposal_gives, block_gives, certificate_gives, others, has_kind}
 use native.Mathlib.Omega.{arith}
 use Rattle.event.proofs.record.on_record.Goals as goal
 
-pub u16_at-kind-requires : goal.u16_at-kind-requires
-u16_at-kind-requires c = omega (arith, c.requires.1.0)
+pub keep_ballot-requires : goal.keep_ballot-requires
+keep_ballot-requires c =
+    let is : kind_of c.args.rec.now ≡ 1 = sym (rw c.in-Vote.is at c.in-Some.ensures) in
+    let k = c.requires.1.1.vote is in
+    ((omega (arith, c.vote_row.ensures), omega (arith, c.vote_row.ensures, c.requires.0.long)), (k.0, omega (arith, k.1, (ready_facts _ _ _ c.requires.0).few)))
 
-pub keep_vote-requires : goal.keep_vote-requires
-keep_vote-requires c = let k = c.requires.1.1.vote (sym c.u16_at-kind.ensures ∙ c.if-kind-eq1.true) in (c.requires.0.long, (k.0, omega (arith, k.1, (ready_facts _ _ _ c.requires.0).few)))
+pub returns-in-Vote : goal.returns-in-Vote
+returns-in-Vote c =
+    let is : kind_of c.args.rec.now ≡ 1 = sym (rw c.in-Vote.is at c.in-Some.ensures) in
+    vote_gives c.args.d _ _ c.args.rec.now c.args.held (omega (arith, c.requires.0.room)) is (c.keep_ballot.ensures ∙ rw (c.vote_row.ensures, c.u64_at.ensures)) c.no_block.ensures
 
-pub no_block-requires : goal.no_block-requires
-no_block-requires c = tt
+pub keep_ballot-requires-in-Commit : goal.keep_ballot-requires-in-Commit
+keep_ballot-requires-in-Commit c =
+    let is : kind_of c.args.rec.now ≡ 2 = sym (rw c.in-Commit.is at c.in-Some.ensures) in
+    let k = c.requires.1.1.commit is in
+    ((omega (arith, c.commit_row.ensures), omega (arith, c.commit_row.ensures, c.requires.0.long)), (k.0, omega (arith, k.1, (ready_facts _ _ _ c.requires.0).few)))
 
-pub returns-then-kind-eq1 : goal.returns-then-kind-eq1
-returns-then-kind-eq1 c = vote_gives c.args.d _ _ c.args.rec.now c.args.held (omega (arith, c.requires.0.room)) c.u16_at-kind.ensures c.if-kind-eq1.true c.keep_vote.ensures c.no_block.ensures
-
-pub keep_commit-requires : goal.keep_commit-requires
-keep_commit-requires c = let k = c.requires.1.1.commit (sym c.u16_at-kind.ensures ∙ c.if-kind-eq2.true) in (c.requires.0.long, (k.0, omega (arith, k.1, (ready_facts _ _ _ c.requires.0).few)))
-
-pub no_block-requires-then-kind-eq2 : goal.no_block-requires-then-kind-eq2
-no_block-requires-then-kind-eq2 c = tt
-
-pub returns-then-kind-eq2 : goal.returns-then-kind-eq2
-returns-then-kind-eq2 c = commit_gives c.args.d _ _ c.args.rec.now c.args.held (omega (arith, c.requires.0.room)) c.u16_at-kind.ensures c.if-kind-eq2.true c.keep_commit.ensures c.no_block-then-kind-eq2.ensures
+pub returns-in-Commit : goal.returns-in-Commit
+returns-in-Commit c =
+    let is : kind_of c.args.rec.now ≡ 2 = sym (rw c.in-Commit.is at c.in-Some.ensures) in
+    commit_gives c.args.d _ _ c.args.rec.now c.args.held (omega (arith, c.requires.0.room)) is
+    (c.keep_ballot-in-Commit.ensures ∙ rw (c.commit_row.ensures, c.u64_at-in-Commit.ensures)) c.no_block-in-Commit.ensures
 
 pub keep_timeout-requires : goal.keep_timeout-requires
-keep_timeout-requires c = let k = c.requires.1.1.timeout (sym c.u16_at-kind.ensures ∙ c.if-kind-eq5.true) in (c.requires.0.long, (k.0, omega (arith, k.1, (ready_facts _ _ _ c.requires.0).few)))
+keep_timeout-requires c =
+    let is : kind_of c.args.rec.now ≡ 5 = sym (rw c.in-Timeout.is at c.in-Some.ensures) in
+    let k = c.requires.1.1.timeout is in
+    (c.requires.0.long, (k.0, omega (arith, k.1, (ready_facts _ _ _ c.requires.0).few)))
 
-pub no_block-requires-then-kind-eq5 : goal.no_block-requires-then-kind-eq5
-no_block-requires-then-kind-eq5 c = tt
-
-pub returns-then-kind-eq5 : goal.returns-then-kind-eq5
-returns-then-kind-eq5 c = timeout_gives c.args.d _ _ c.args.rec.now c.args.held (omega (arith, c.requires.0.room)) c.u16_at-kind.ensures c.if-kind-eq5.true c.keep_timeout.ensures c.no_block-then-kind-eq5.ensures
+pub returns-in-Timeout : goal.returns-in-Timeout
+returns-in-Timeout c =
+    let is : kind_of c.args.rec.now ≡ 5 = sym (rw c.in-Timeout.is at c.in-Some.ensures) in
+    timeout_gives c.args.d _ _ c.args.rec.now c.args.held (omega (arith, c.requires.0.room)) is c.keep_timeout.ensures c.no_block-in-Timeout.ensures
 
 pub on_proposal-requires : goal.on_proposal-requires
-on_proposal-requires c = let k = c.requires.1.1.proposal (sym c.u16_at-kind.ensures ∙ c.if-kind-eq7.true) in (c.requires.0, (k.0, k.1))
+on_proposal-requires c =
+    let is : kind_of c.args.rec.now ≡ 7 = sym (rw c.in-Proposal.is at c.in-Some.ensures) in
+    let k = c.requires.1.1.proposal is in
+    (c.requires.0, (k.0, k.1))
 
-pub returns-then-kind-eq7 : goal.returns-then-kind-eq7
-returns-then-kind-eq7 c = proposal_gives c.args.d _ _ c.args.rec.now c.args.held c.u16_at-kind.ensures c.if-kind-eq7.true c.on_proposal.ensures
+pub returns-in-Proposal : goal.returns-in-Proposal
+returns-in-Proposal c =
+    let is : kind_of c.args.rec.now ≡ 7 = sym (rw c.in-Proposal.is at c.in-Some.ensures) in
+    proposal_gives c.args.d _ _ c.args.rec.now c.args.held is c.on_proposal.ensures
 
 pub on_block-requires : goal.on_block-requires
-on_block-requires c = let k = c.requires.1.1.block (sym c.u16_at-kind.ensures ∙ c.if-kind-eq8.true) in (c.requires.0.long, ((ready_facts _ _ _ c.requires.0).blocks, omega (arith, k.0)))
+on_block-requires c =
+    let is : kind_of c.args.rec.now ≡ 8 = sym (rw c.in-Block.is at c.in-Some.ensures) in
+    let k = c.requires.1.1.block is in
+    (c.requires.0.long, ((ready_facts _ _ _ c.requires.0).blocks, omega (arith, k.0)))
 
-pub returns-then-kind-eq8 : goal.returns-then-kind-eq8
-returns-then-kind-eq8 c = block_gives c.args.d _ _ c.args.rec.now c.args.held (omega (arith, c.requires.0.room)) c.u16_at-kind.ensures c.if-kind-eq8.true c.on_block.ensures
+pub returns-in-Block : goal.returns-in-Block
+returns-in-Block c =
+    let is : kind_of c.args.rec.now ≡ 8 = sym (rw c.in-Block.is at c.in-Some.ensures) in
+    block_gives c.args.d _ _ c.args.rec.now c.args.held (omega (arith, c.requires.0.room)) is c.on_block.ensures
+
+pub unreachable-requires : goal.unreachable-requires
+unreachable-requires c =
+    let none : NoKind (kind_of c.args.rec.now) = rw c.in_default.is at c.kind_at.ensures in
+    has_kind c.args.mem.now c.args.rec.now c.args.held c.requires.1.1 none
 
 pub progress-requires : goal.progress-requires
-progress-requires c = let p = c.requires.1.1.certificate (λ e. c.if-kind-eq1.false (c.u16_at-kind.ensures ∙ e)) (λ e. c.if-kind-eq2.false (c.u16_at-kind.ensures ∙ e)) (λ e. c.if-kind-eq5.false (c.u16_at-kind.ensures ∙ e)) (λ e. c.if-kind-eq7.false (c.u16_at-kind.ensures ∙ e)) (λ e. c.if-kind-eq8.false (c.u16_at-kind.ensures ∙ e)) in
+progress-requires c =
+    let o = c.in_default-kind in
+    let p = others c.args.mem.now c.args.rec.now c.args.held c.in-Some.kind c.requires.1.1 c.in-Some.ensures o.not-Vote o.not-Commit o.not-Timeout o.not-Proposal o.not-Block in
     (ready_less _ _ _ _ _ (omega (arith, progress_room _ c.args.rec.now (ready_facts _ _ _ c.requires.0).few p)) c.requires.0, p)
 
-pub no_block-requires-2 : goal.no_block-requires-2
-no_block-requires-2 c = tt
-
-pub returns : goal.returns
-returns c = let p = c.requires.1.1.certificate (λ e. c.if-kind-eq1.false (c.u16_at-kind.ensures ∙ e)) (λ e. c.if-kind-eq2.false (c.u16_at-kind.ensures ∙ e)) (λ e. c.if-kind-eq5.false (c.u16_at-kind.ensures ∙ e)) (λ e. c.if-kind-eq7.false (c.u16_at-kind.ensures ∙ e)) (λ e. c.if-kind-eq8.false (c.u16_at-kind.ensures ∙ e)) in
-    certificate_gives c.args.d _ _ c.args.rec.now c.args.held p c.progress.ensures c.no_block-2.ensures
+pub returns-in_default-kind : goal.returns-in_default-kind
+returns-in_default-kind c =
+    let o = c.in_default-kind in
+    let p = others c.args.mem.now c.args.rec.now c.args.held c.in-Some.kind c.requires.1.1 c.in-Some.ensures o.not-Vote o.not-Commit o.not-Timeout o.not-Proposal o.not-Block in
+    certificate_gives c.args.d _ _ c.args.rec.now c.args.held p c.progress.ensures c.no_block-in_default-kind.ensures

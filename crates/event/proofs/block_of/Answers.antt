@@ -1,6 +1,6 @@
 use mathlib.Core.Path.{refl}
 use Rattle.event.specs.Event.{block_of_child}
-use Rattle.event.proofs.record.block_of.Goals as goal
+use Rattle.event.proofs.block_of.Goals as goal
 
 pub returns : goal.returns
 unfolding block_of_child
