@@ -1,3 +1,4 @@
+pub mod Orders
 pub mod Views
 pub mod Running
 pub mod Quiet

@@ -13,8 +13,7 @@ use Rattle.blocks.specs.declared.Block.{Block}
 use Rattle.memory.specs.Layout.{vote_row, commit_row, timeout_row, settings_of}
 use Rattle.memory.specs.Kept.{kept_count, tally}
 use Rattle.memory.specs.Window.{lowest, highest}
-use Rattle.memory.specs.declared.decided.Choice.{Choice}
-use Rattle.memory.specs.Decided.{no_choice, chosen, above, alone_in, alone, decided, next_decided, too_few}
+use Rattle.memory.specs.Decided.{Choice, no_choice, chosen, above, alone_in, alone, decided, next_decided, too_few}
 use Rattle.memory.proofs.Counting.{kept_most}
 use Rattle.memory.proofs.Passing.{few_none}
 use Rattle.memory.proofs.Sole.{sole_next}
@@ -41,22 +40,21 @@ module _ (test : ℕ → Bool) where
       go true e g = absurd (false≢true g)
       go false e g = (refl, g)
 
-  -- the loop over the views up to the last one
-  pub nowhere_on : (last at : ℕ) → at ≤ last → test at ≡ false → nowhere test at (suc last - at) ≡ nowhere test (at + 1) (suc last - (at + 1))
+  -- the loop over the views before the end
+  pub nowhere_on : (end at : ℕ) → at < end → test at ≡ false → nowhere test at (end - at) ≡ nowhere test (at + 1) (end - (at + 1))
   unfolding nowhere
-  nowhere_on last at h e =
-      let f : suc last - at ≡ suc (last - at) = omega (arith, h) in
+  nowhere_on end at h e =
+      let f : end - at ≡ suc (end - suc at) = omega (arith, h) in
       let g : at + 1 ≡ suc at = omega arith in
-      let k : suc last - suc at ≡ last - at = omega arith in
-      rw (f, g, k, e) refl
+      rw (f, g, e) refl
 
-  pub nowhere_off : (last at : ℕ) → at ≤ last → test at ≡ true → false ≡ nowhere test at (suc last - at)
+  pub nowhere_off : (end at : ℕ) → at < end → test at ≡ true → false ≡ nowhere test at (end - at)
   unfolding nowhere
-  nowhere_off last at h e = let f : suc last - at ≡ suc (last - at) = omega (arith, h) in rw (f, e) refl
+  nowhere_off end at h e = let f : end - at ≡ suc (end - suc at) = omega (arith, h) in rw (f, e) refl
 
-  pub nowhere_end : (last at : ℕ) → last < at → true ≡ nowhere test at (suc last - at)
+  pub nowhere_end : (end at : ℕ) → end ≤ at → true ≡ nowhere test at (end - at)
   unfolding nowhere
-  nowhere_end last at h = let f : suc last - at ≡ 0 = omega (arith, h) in rw f refl
+  nowhere_end end at h = let f : end - at ≡ 0 = omega (arith, h) in rw f refl
 
 -- a rule that changes nothing at each view
 each_rests : (rule : ℕ → Work → Work) (test : ℕ → Bool) (W : Work) → ((v : ℕ) → test v ≡ false → rule v W ≡ W) → (v k : ℕ) → nowhere test v k ≡ true → each rule v k W ≡ W
@@ -181,11 +179,11 @@ all_rest d m o l small t v = does_stay phases d m o l rests
         rw (a, b, z) refl
 
 -- ---- the two loops, as the code takes them
-module _ (m : List ℕ) (view : ℕ) {s : Settings} {last : ℕ} (e : s ≡ settings_of m) (f : last ≡ highest view) where
-  pub timeouts_are : (timed : ℕ) → nowhere (echoable m s timed) view (suc last - view) ≡ few_timeouts m view timed
+module _ (m : List ℕ) (view : ℕ) {s : Settings} {end : ℕ} (e : s ≡ settings_of m) (f : end ≡ suc (highest view)) where
+  pub timeouts_are : (timed : ℕ) → nowhere (echoable m s timed) view (end - view) ≡ few_timeouts m view timed
   unfolding few_timeouts
   timeouts_are timed = rw (e, f) refl
 
-  pub votes_are : (lock : Signed) (low : ℕ) → low ≡ lowest view → nowhere (certifiable m s lock) low (suc last - low) ≡ few_votes m view lock
+  pub votes_are : (lock : Signed) (low : ℕ) → low ≡ lowest view → nowhere (certifiable m s lock) low (end - low) ≡ few_votes m view lock
   unfolding few_votes
   votes_are lock low g = rw (e, f, g) refl

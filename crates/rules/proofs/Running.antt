@@ -8,6 +8,7 @@ use mathlib.Core.List.{List}
 use lib.Dec.{leb, ltb}
 use lib.ListN.{length, length-append}
 use Rattle.settings.specs.Quorum.{last_view, timeout_quorum}
+use Rattle.wire.specs.Fields.{timeout_length, block_certificate_length, vote_length}
 use Rattle.wire.specs.Encode.{timeout_bytes}
 use Rattle.certificate.specs.Rank.{block_certificate, outranks}
 use Rattle.memory.specs.Layout.{entry_room, timeout_row}
@@ -25,7 +26,7 @@ use Rattle.act.specs.declared.Draft.{Draft}
 use Rattle.act.specs.Draft.{work_of, Does, Ready}
 use Rattle.act.proofs.Steps.{empty_store, Longer, does_same, does_stay, does_then, ready_next}
 use Rattle.act.proofs.Advancing.{longer_if, progress_longer}
-use Rattle.rules.specs.Phases.{phase_a, phase_b, phase_c, phases}
+use Rattle.rules.specs.Phases.{Rule, phase_a, phase_b, phase_c, phases}
 
 -- ---- nothing is unwritten
 timeout_longer : (v : ℕ) (W : Work) → Longer W (send_timeout v W)
@@ -47,6 +48,16 @@ unfolding rule_c
 c_longer v W =
     let x = next_decided W.memory (enough_votes v W) no_choice in
     longer_if W _ _ (x.some && outranks (block_certificate v x.name 0) (locks_of W.counters).lock) (progress_longer _ W) (omega arith)
+
+-- the rules as they are run at each view
+abbrev pub law_a : Rule
+law_a = record { does = rule_a; room = timeout_length; longer = a_longer; keeps = a_regular; grows = a_out }
+
+abbrev pub law_b : Rule
+law_b = record { does = rule_b; room = entry_room; longer = b_longer; keeps = b_regular; grows = b_out }
+
+abbrev pub law_c : Rule
+law_c = record { does = rule_c; room = block_certificate_length + vote_length; longer = c_longer; keeps = c_regular; grows = c_out }
 
 -- ---- a rule at one view more
 each_more : (rule : ℕ → Work → Work) (v k : ℕ) (W : Work) → each rule v (suc k) W ≡ rule (v + k) (each rule v k W)
@@ -114,28 +125,13 @@ pub c_phase_longer : (W : Work) → Longer W (phase_c W)
 unfolding phase_c
 c_phase_longer W = each_longer rule_c c_longer (lowest (view_now W)) (ballot_views W) W
 
--- ---- a phase is done when the last view is passed
-module _ {d d₁ : Draft} {m m₁ o o₁ : List ℕ} where
-  pub a_ends : (w last : ℕ) → last ≡ highest d.counters.view.0 → d.counters.view.0 ≤ w → w - d.counters.view.0 ≤ suc last - d.counters.view.0 → last < w
-      → Does (each rule_a d.counters.view.0 (w - d.counters.view.0)) d m o d₁ m₁ o₁ → Does phase_a d m o d₁ m₁ o₁
-  unfolding phase_a
-  a_ends w last e a b c x =
-      let k : w - d.counters.view.0 ≡ suc (highest d.counters.view.0) - d.counters.view.0 = omega arith in
-      does_same (each rule_a d.counters.view.0 (w - d.counters.view.0)) phase_a (λ s. rw k) x
-
-  pub b_ends : (w last : ℕ) → last ≡ highest d.counters.view.0 → d.counters.view.0 ≤ w → w - d.counters.view.0 ≤ suc last - d.counters.view.0 → last < w
-      → Does (each rule_b d.counters.view.0 (w - d.counters.view.0)) d m o d₁ m₁ o₁ → Does phase_b d m o d₁ m₁ o₁
-  unfolding phase_b
-  b_ends w last e a b c x =
-      let k : w - d.counters.view.0 ≡ suc (highest d.counters.view.0) - d.counters.view.0 = omega arith in
-      does_same (each rule_b d.counters.view.0 (w - d.counters.view.0)) phase_b (λ s. rw k) x
-
-  pub c_ends : (v w last : ℕ) → v ≡ lowest d.counters.view.0 → last ≡ highest d.counters.view.0 → v ≤ w → w - v ≤ suc last - v → last < w
-      → Does (each rule_c v (w - v)) d m o d₁ m₁ o₁ → Does phase_c d m o d₁ m₁ o₁
-  unfolding phase_c
-  c_ends v w last f e a b c x =
+-- ---- the run is done when the last view is passed
+module _ (rule : ℕ → Work → Work) {d d₁ : Draft} {m m₁ o o₁ : List ℕ} where
+  pub run_ends : (v w last : ℕ) → last ≡ highest d.counters.view.0 → v ≤ w → w - v ≤ suc last - v → last < w
+      → Does (each rule v (w - v)) d m o d₁ m₁ o₁ → Does (each rule v (suc (highest d.counters.view.0) - v)) d m o d₁ m₁ o₁
+  run_ends v w last e a b c x =
       let k : w - v ≡ suc (highest d.counters.view.0) - v = omega arith in
-      does_same (each rule_c v (w - v)) phase_c (λ s. rw (k, f)) x
+      does_same (each rule v (w - v)) (each rule v (suc (highest d.counters.view.0) - v)) (λ s. rw k) x
 
 -- ---- one phase after another
 abbrev pub phases_room : ℕ

@@ -23,9 +23,9 @@ use Rattle.certificate.specs.Rank.{block_certificate, outranks}
 use Rattle.certificate.specs.Safe.{safe_certificate}
 use Rattle.blocks.specs.declared.Block.{Block}
 use Rattle.memory.specs.Layout.{entry_room, vote_row, timeout_row, settings_of, own_of}
-use Rattle.memory.specs.declared.kept.Tally.{Tally}
-use Rattle.memory.specs.declared.decided.Choice.{Choice}
-use Rattle.memory.specs.Decided.{no_choice, next_decided}
+use Rattle.certificate.specs.declared.Tally.{Tally}
+use Rattle.std.proofs.Common.{Option, Some, None}
+use Rattle.memory.specs.Decided.{Choice, no_choice, chosen, choice_of, next_decided}
 use Rattle.counters.specs.declared.Counters.{Counters}
 use Rattle.counters.specs.Counters.{locks_of, adopting, certificate_of as lock_of}
 use Rattle.memory.specs.Kept.{kept_count, tally}
@@ -195,27 +195,25 @@ module _ (d : Draft) (m o : List ℕ) (v : ℕ) (x : List ℕ) (a : Ready d m o 
           (out_does d m o block_cert block_enough block_progress block_sender (omega (arith, block_view, h)) block_put (rw (← block_is.1) at y))
 
 -- ---- rule C
-module _ (d : Draft) (m o : List ℕ) (v : ℕ) (l : d.at ≤ length o) {x : Choice} (e : x ≡ next_decided m (votes_wanted m v) no_choice) where
-  some_is : (t : Bool) → x.some ≡ t → (next_decided m (votes_wanted m v) no_choice).some ≡ t
-  some_is t h = ap (λ (y : Choice). y.some) (sym e) ∙ h
-
-  pub c_none : x.some ≡ false → Does (rule_c v) d m o d m o
+module _ (d : Draft) (m o : List ℕ) (v : ℕ) (l : d.at ≤ length o) {found : Option (List ℕ)} (e : choice_of found ≡ next_decided m (votes_wanted m v) no_choice) where
+  pub c_none : found ≡ None → Does (rule_c v) d m o d m o
   unfolding rule_c
-  c_none h = does_stay (rule_c v) d m o l (λ s. rw (some_is false h))
+  c_none h = let is = sym e ∙ ap choice_of h in does_stay (rule_c v) d m o l (λ s. rw is)
 
-  module _ (h : x.some ≡ true) {k : Locks} {t : Bool} (p : k ≡ locks_of d.counters) (q : t ≡ outranks (block_certificate v x.name 0) k.lock) where
-    outranks_is : outranks (block_certificate v (next_decided m (votes_wanted m v) no_choice).name 0) (locks_of d.counters).lock ≡ t
-    outranks_is = sym (q ∙ rw (p, e))
+  module _ {x : List ℕ} (h : found ≡ Some x) {k : Locks} {t : Bool} (p : k ≡ locks_of d.counters) (q : t ≡ outranks (block_certificate v x 0) k.lock) where
+    is : next_decided m (votes_wanted m v) no_choice ≡ chosen x
+    is = sym e ∙ ap choice_of h
+
+    outranks_is : outranks (block_certificate v x 0) (locks_of d.counters).lock ≡ t
+    outranks_is = sym (q ∙ rw p)
 
     pub c_lower : t ≡ false → Does (rule_c v) d m o d m o
     unfolding rule_c
-    c_lower f = does_stay (rule_c v) d m o l (λ s. rw (some_is true h, outranks_is, f))
+    c_lower f = does_stay (rule_c v) d m o l (λ s. rw (is, outranks_is, f))
 
-    pub c_forms : {d₁ : Draft} {m₁ o₁ : List ℕ} → t ≡ true → Does (forms_block v x.name) d m o d₁ m₁ o₁ → Does (rule_c v) d m o d₁ m₁ o₁
+    pub c_forms : {d₁ : Draft} {m₁ o₁ : List ℕ} → t ≡ true → Does (forms_block v x) d m o d₁ m₁ o₁ → Does (rule_c v) d m o d₁ m₁ o₁
     unfolding rule_c forms_block
-    c_forms f a =
-        does_same (forms_block v x.name) (rule_c v)
-        (λ s. rw e (sym (rw (some_is true h, outranks_is, f)))) a
+    c_forms f a = does_same (forms_block v x) (rule_c v) (λ s. sym (rw (is, outranks_is, f))) a
 
 -- below the lock's view
 pub lower_view : (v : ℕ) (x : List ℕ) (c : Counters) → v < c.lock.view.0 → outranks (block_certificate v x 0) (locks_of c).lock ≡ false

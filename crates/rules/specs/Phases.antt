@@ -1,5 +1,5 @@
 -- The run of the rules A, B and C: the first three parts of `settle` of protocol. Assumes nothing.
-use Rattle.std.specs.Prelude.{ℕ, zero, suc, ◌-◌, Bool, true, false, cond, not, List, leb, ltb, eqb}
+use Rattle.std.specs.Prelude.{ℕ, zero, suc, ◌+◌, ◌-◌, ◌≤◌, ◌<◌, Bool, true, false, cond, not, List, length, leb, ltb, eqb}
 use Rattle.settings.specs.declared.Settings.{Settings}
 use Rattle.settings.specs.Quorum.{block_quorum, timeout_quorum, replicas}
 use Rattle.memory.specs.declared.decided.Quorums.{Quorums}
@@ -8,6 +8,12 @@ use Rattle.memory.specs.Kept.{kept_count}
 use Rattle.memory.specs.Window.{lowest, highest}
 use Rattle.memory.specs.Decided.{alone_in}
 use Rattle.counters.specs.declared.Signed.{Signed}
+use Rattle.std.specs.Borrow.{MutBor}
+use Rattle.settings.specs.declared.View.{View}
+use Rattle.settings.specs.Quorum.{last_view}
+use Rattle.act.specs.declared.Draft.{Draft}
+use Rattle.act.specs.Draft.{Does, Ready}
+use Rattle.protocol.proofs.call.Regular.{Regular, Still}
 use Rattle.protocol.specs.Work.{Work, view, view_now}
 use Rattle.protocol.specs.Events.{progress}
 use Rattle.protocol.specs.Rules.{formed_block, rule_a, rule_b, rule_c, each, timeout_views, ballot_views}
@@ -32,6 +38,22 @@ phase_c W = each rule_c (lowest (view_now W)) (ballot_views W) W
 
 unfoldable pub phases : Work → Work
 phases W = phase_c (phase_b (phase_a W))
+
+-- ---- A RULE AT EACH VIEW: what it does at one, so many bytes at most, and that nothing is unwritten and a regular replica stays regular
+pub record Rule : Type 0 where
+  pub does : ℕ → Work → Work
+  pub room : ℕ
+  pub longer : (v : ℕ) (W : Work) → length W.out ≤ length (does v W).out
+  pub keeps : (W : Work) (v : ℕ) → v < last_view → Regular W → Regular (does v W) × Still W (does v W)
+  pub grows : (W : Work) (v : ℕ) → v < last_view → Regular W → length (does v W).out ≤ length W.out + room
+
+-- a function over the two regions may be called at a view where it has that room
+abbrev pub Callable : (MutBor (List ℕ) → MutBor (List ℕ) → Draft → View → Type 0) → ℕ → Type 0
+Callable pre room = (m o : MutBor (List ℕ)) (d : Draft) (v : View) → Ready d m.now o.now room → v.0 < last_view → pre m o d v
+
+-- and what it leaves is what the rule says
+abbrev pub Runs : (MutBor (List ℕ) → MutBor (List ℕ) → Draft → View → Draft → MutBor (List ℕ) → MutBor (List ℕ) → Type 0) → (ℕ → Work → Work) → Type 0
+Runs post does = (m o : MutBor (List ℕ)) (d : Draft) (v : View) (e : Draft) (n p : MutBor (List ℕ)) → post m o d v e n p → Does (does v.0) d m.now o.now e n.now p.now
 
 -- ---- NOTHING TO DO: tests by counts of kept timeouts and votes alone
 -- a test fails at each of k views from v on

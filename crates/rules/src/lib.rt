@@ -9,7 +9,7 @@ ghost use Rattle.std.specs.Prelude.{◌≡◌, ◌+◌, ◌≤◌, ◌<◌, leng
 ghost use Rattle.settings.specs.Quorum.{largest, last_view, replicas};
 ghost use Rattle.wire.specs.Fields.{vote_length, block_certificate_length, timeout_length};
 ghost use Rattle.memory.specs.Layout.{memory_length, entry_room, settings_of, own_of};
-ghost use Rattle.memory.specs.Decided.{no_choice, next_decided};
+ghost use Rattle.memory.specs.Decided.{no_choice, choice_of, next_decided};
 ghost use Rattle.memory.specs.Formed.{formed};
 ghost use Rattle.protocol.specs.Events.{progress};
 ghost use Rattle.protocol.specs.Rules.{rule_a, rule_b, rule_c};
@@ -20,7 +20,7 @@ use act::progress::act_on;
 use act::{Draft, send_timeout};
 use certificate::Certificate;
 use counters::{adopting, locks};
-use memory::decided::{Choice, Quorums, next_decided};
+use memory::decided::{Quorums, next_decided};
 use memory::formed::form;
 use memory::kept::{count_backers, kept_count, timeout_row, vote_row};
 use memory::{own, settings};
@@ -33,11 +33,7 @@ pub fn rule_a(mem: &mut [u8], out: &mut [u8], d: Draft, view: View) -> Draft
     requires { Ready d mem.old out.old timeout_length }
     ensures { Does (rule_a view.0) d mem.old out.old result mem.new out.new }
 {
-    let c = d.counters;
-    if view.0 < c.view.0 {
-        return d;
-    }
-    if view.0 <= c.timed.0 {
+    if view < d.counters.view || view <= d.counters.timed {
         return d;
     }
     let s = settings(mem);
@@ -52,10 +48,9 @@ fn form_timeouts(mem: &mut [u8], out: &mut [u8], d: Draft, view: View) -> Draft
     requires { Ready d mem.old out.old entry_room × ((d.counters.view.0 ≤ view.0) × (view.0 < last_view)) }
     ensures { Does (progress (formed mem.old view.0 (replicas (settings_of mem.old)) (own_of mem.old))) d mem.old out.old result mem.new out.new }
 {
-    let at = d.at;
     let n = settings(mem).n() as usize;
-    let to = form(mem, view, n, own(mem), out, at);
-    act_on(mem, out, d, to - at)
+    let to = form(mem, view, n, own(mem), out, d.at);
+    act_on(mem, out, d, to - d.at)
 }
 
 // Rule B at a view: enough timeouts are kept for it.
@@ -63,8 +58,7 @@ pub fn rule_b(mem: &mut [u8], out: &mut [u8], d: Draft, view: View) -> Draft
     requires { Ready d mem.old out.old entry_room × (view.0 < last_view) }
     ensures { Does (rule_b view.0) d mem.old out.old result mem.new out.new }
 {
-    let c = d.counters;
-    if view.0 < c.view.0 {
+    if view < d.counters.view {
         return d;
     }
     let s = settings(mem);
@@ -76,9 +70,9 @@ pub fn rule_b(mem: &mut [u8], out: &mut [u8], d: Draft, view: View) -> Draft
 
 // The smallest name of a view for which a block quorum of votes is kept, if there is one. More commits than there are replicas are asked for, so
 // that only votes decide.
-fn smallest_voted(mem: &[u8], view: View) -> Choice
+fn smallest_voted(mem: &[u8], view: View) -> Option<[u8; 32]>
     requires { (memory_length ≤ length mem.now) × (replicas (settings_of mem.now) ≤ largest) }
-    ensures { result ≡ next_decided mem.now (votes_wanted mem.now view.0) no_choice }
+    ensures { choice_of result ≡ next_decided mem.now (votes_wanted mem.now view.0) no_choice }
 {
     let s = settings(mem);
     let n = s.n();
@@ -88,11 +82,7 @@ fn smallest_voted(mem: &[u8], view: View) -> Choice
         votes: s.block_quorum(),
         commits: n + 1,
     };
-    let none = Choice {
-        some: false,
-        name: [0u8; 32],
-    };
-    next_decided(mem, wanted, none)
+    next_decided(mem, wanted, None)
 }
 
 // The block certificate of a name is formed of the kept votes for it, and does what an accepted one does.
@@ -100,12 +90,9 @@ fn form_block(mem: &mut [u8], out: &mut [u8], d: Draft, view: View, name: [u8; 3
     requires { Ready d mem.old out.old (block_certificate_length + vote_length) × (view.0 < last_view) }
     ensures { Does (forms_block view.0 name) d mem.old out.old result mem.new out.new }
 {
-    let c = d.counters;
-    let at = d.at;
     let n = settings(mem).n() as usize;
-    let backed = count_backers(mem, vote_row(view), name, n);
-    let signers = backed.signers;
-    if view.0 < c.view.0 {
+    let signers = count_backers(mem, vote_row(view), name, n).signers;
+    if view < d.counters.view {
         let k = Certificate {
             block: true,
             view,
@@ -113,12 +100,12 @@ fn form_block(mem: &mut [u8], out: &mut [u8], d: Draft, view: View, name: [u8; 3
             signers,
         };
         return Draft {
-            counters: adopting(c, k),
-            at,
+            counters: adopting(d.counters, k),
+            ..d
         };
     }
     let vote = Vote { view, name };
-    put_block_certificate(out, at, own(mem), vote, signers);
+    put_block_certificate(out, d.at, own(mem), vote, signers);
     act_on(mem, out, d, length::BLOCK_CERTIFICATE)
 }
 
@@ -127,14 +114,10 @@ fn certify(mem: &mut [u8], out: &mut [u8], d: Draft, view: View) -> Draft
     requires { Ready d mem.old out.old (block_certificate_length + vote_length) × (view.0 < last_view) }
     ensures { Does (rule_c view.0) d mem.old out.old result mem.new out.new }
 {
-    let found = smallest_voted(mem, view);
-    if !found.some {
+    let Some(name) = smallest_voted(mem, view) else {
         return d;
-    }
-    let name = found.name;
-    let c = d.counters;
-    let l = locks(c);
-    let lock = l.lock;
+    };
+    let lock = locks(d.counters).lock;
     let k = Certificate {
         block: true,
         view,
@@ -152,9 +135,7 @@ pub fn rule_c(mem: &mut [u8], out: &mut [u8], d: Draft, view: View) -> Draft
     requires { Ready d mem.old out.old (block_certificate_length + vote_length) × (view.0 < last_view) }
     ensures { Does (rule_c view.0) d mem.old out.old result mem.new out.new }
 {
-    let c = d.counters;
-    let lock = c.lock;
-    if view.0 < lock.view.0 {
+    if view < d.counters.lock.view {
         return d;
     }
     certify(mem, out, d, view)

@@ -1,3 +1,4 @@
+use Rattle.rules.proofs.Orders.{below, not_below}
 use borrow.Author.Rules.{rules}
 use mathlib.Core.Path.{ap, ◌∙◌}
 use Rattle.settings.specs.declared.Settings.{Settings}
@@ -16,14 +17,14 @@ n-n-requires c = tt
 pub vote_row-requires : goal.vote_row-requires
 vote_row-requires c = tt
 
-pub count_backers-backed-requires : goal.count_backers-backed-requires
-count_backers-backed-requires c = let f = ready_facts _ _ _ c.requires.0 in (omega (arith, c.vote_row.ensures), (omega (arith, f.few, c.n-n.ensures ∙ ap (λ (z : Settings). replicas z) c.settings.ensures), omega (arith, c.vote_row.ensures, c.requires.0.long)))
+pub count_backers-signers-requires : goal.count_backers-signers-requires
+count_backers-signers-requires c = let f = ready_facts _ _ _ c.requires.0 in (omega (arith, c.vote_row.ensures), (omega (arith, f.few, c.n-n.ensures ∙ ap (λ (z : Settings). replicas z) c.settings.ensures), omega (arith, c.vote_row.ensures, c.requires.0.long)))
 
 pub adopting-requires : goal.adopting-requires
 adopting-requires c = tt
 
-pub returns-then-view-c : goal.returns-then-view-c
-returns-then-view-c c = block_below c.args.d _ _ c.args.view.0 c.args.name c.requires.0 c.requires.1 (search rules) c.settings.ensures c.n-n.ensures c.vote_row.ensures c.count_backers-backed.ensures c.if-view-c.true c.adopting.ensures
+pub returns-then-lt : goal.returns-then-lt
+returns-then-lt c = block_below c.args.d _ _ c.args.view.0 c.args.name c.requires.0 c.requires.1 (search rules) c.settings.ensures c.n-n.ensures c.vote_row.ensures c.count_backers-signers.ensures (below _ _ c.lt.ensures c.if-lt.true) c.adopting.ensures
 
 pub own-requires : goal.own-requires
 own-requires c = omega (arith, c.requires.0.long)
@@ -32,7 +33,7 @@ pub put_block_certificate-requires : goal.put_block_certificate-requires
 put_block_certificate-requires c = omega (arith, c.requires.0.room)
 
 pub act_on-requires : goal.act_on-requires
-act_on-requires c = block_in_output c.args.d _ _ c.args.view.0 c.args.name c.requires.0 c.requires.1 (search rules) c.settings.ensures c.n-n.ensures c.vote_row.ensures c.count_backers-backed.ensures c.if-view-c.false c.own.ensures c.put_block_certificate.ensures
+act_on-requires c = block_in_output c.args.d _ _ c.args.view.0 c.args.name c.requires.0 c.requires.1 (search rules) c.settings.ensures c.n-n.ensures c.vote_row.ensures c.count_backers-signers.ensures (not_below _ _ c.lt.ensures c.if-lt.false) c.own.ensures c.put_block_certificate.ensures
 
 pub returns : goal.returns
-returns c = block_does c.args.d _ _ c.args.view.0 c.args.name c.requires.0 c.requires.1 (search rules) c.settings.ensures c.n-n.ensures c.vote_row.ensures c.count_backers-backed.ensures c.if-view-c.false c.own.ensures c.put_block_certificate.ensures c.act_on.ensures
+returns c = block_does c.args.d _ _ c.args.view.0 c.args.name c.requires.0 c.requires.1 (search rules) c.settings.ensures c.n-n.ensures c.vote_row.ensures c.count_backers-signers.ensures (not_below _ _ c.lt.ensures c.if-lt.false) c.own.ensures c.put_block_certificate.ensures c.act_on.ensures

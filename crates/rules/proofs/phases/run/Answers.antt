@@ -2,7 +2,6 @@ use mathlib.Core.Path.{sym, ◌∙◌}
 use Rattle.act.proofs.Steps.{ready_facts}
 use Rattle.rules.proofs.Quiet.{all_rest}
 use native.Mathlib.Omega.{arith}
-use Rattle.rules.proofs.phases.run.Lts as lts
 use Rattle.rules.proofs.phases.run.Goals as goal
 
 pub few_timeouts-requires : goal.few_timeouts-requires

@@ -1,12 +1,5 @@
-use lib.ListN.{length}
-use Prim.Native.Nat.{suc, ◌-◌, ◌≤◌}
-use mathlib.Core.Path.{◌≡◌}
-use Rattle.protocol.specs.Rules.{rule_a, each}
-use Rattle.act.specs.Draft.{Does}
+use Rattle.rules.proofs.Running.{law_a}
 use Rattle.rules.proofs.phases.run_a.Given as goal
 
-abbrev pub invariant-loop-view : goal.invariant-loop-view
-invariant-loop-view l = (l.initial.view ≤ l.view) × ((l.view - l.initial.view ≤ suc l.last - l.initial.view) × (Does (each rule_a l.initial.view (l.view - l.initial.view)) l.initial.next l.initial.mem l.initial.out l.next l.mem l.out × ((length l.mem ≡ length l.initial.mem) × (length l.out ≡ length l.initial.out))))
-
-abbrev pub decreases-loop-view : goal.decreases-loop-view
-decreases-loop-view l = suc l.last - l.view
+abbrev pub ghost-at_each : goal.ghost-at_each
+ghost-at_each a = law_a
