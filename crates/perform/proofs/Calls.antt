@@ -5,7 +5,7 @@ use native.Mathlib.Omega.{arith}
 use mathlib.Core.Path.{◌≡◌, refl, sym, ap, ◌∙◌}
 use mathlib.Core.Bool.{Bool}
 use mathlib.Core.List.{List}
-use lib.ListN.{length, set, length-set, length-append}
+use lib.ListN.{length, length-append}
 use lib.Seq.{length-take-le}
 use Rattle.settings.specs.Answer.{Answer, accepts, refuses}
 use Rattle.wire.specs.Content.{content}
@@ -25,7 +25,8 @@ use Rattle.act.specs.declared.Draft.{Draft}
 use Rattle.act.specs.Draft.{work_of, Left, left, left_by}
 use Rattle.act.proofs.Advancing.{longer_if}
 use Rattle.act.proofs.Steps.{Longer, left_then, work_again, ready_facts}
-use Rattle.event.specs.Event.{Always, Asked, Proposable}
+use Rattle.event.specs.Event.{Always, Asked, Proposable, filled}
+use Rattle.event.proofs.Giving.{length_filled}
 use Rattle.rules.specs.Phases.{phases}
 use Rattle.rules.proofs.Running.{settle_is}
 use Rattle.perform.specs.declared.Done.{Done}
@@ -56,31 +57,31 @@ module _ (number : Work → ℕ) (f : Work → Work) (R : Replica) (o : List ℕ
   -- accepted, it leaves what rule D leaves after so many turns, from the region o' that the rules A, B and C left
   module _ (given : Work → Type 0) (a : Accepted number given (begin R)) (long : store_length ≤ length R.store) (short : length R.store < 2 ^ 64) {e : Done} {m' o' : List ℕ}
       (p : Completes f given R.counters R.memory o e m' o') where
-    abbrev filled : Work
-    filled = work_of e.draft m' o' (set R.store e.place e.block)
+    abbrev stored : Work
+    stored = work_of e.draft m' o' (filled R.store e.placed)
 
     abbrev before_d : Work
     before_d = phases (f (begin R))
 
-    done_left : left e.draft m' o' (set R.store e.place e.block) ≡ left_by before_d o
+    done_left : left e.draft m' o' (filled R.store e.placed) ≡ left_by before_d o
     done_left = p.leaves R.store short a.asked
 
-    done_work : filled ≡ before_d
-    done_work = work_again e.draft m' o' (set R.store e.place e.block) before_d o done_left
+    done_work : stored ≡ before_d
+    done_work = work_again e.draft m' o' (filled R.store e.placed) before_d o done_left
 
     -- all rules: A, B and C, and then as many turns of D
-    settles : settle (f (begin R)) ≡ again e.turns filled
+    settles : settle (f (begin R)) ≡ again e.turns stored
     settles =
-        let s = set R.store e.place e.block in
-        let few : block_count_of m' ≤ length s = omega (arith, (ready_facts e.draft m' o' p.ready).blocks, length-set R.store e.place e.block, long) in
+        let s = filled R.store e.placed in
+        let few : block_count_of m' ≤ length s = omega (arith, (ready_facts e.draft m' o' p.ready).blocks, length_filled R.store e.placed, long) in
         settle_is (f (begin R)) ∙ ap (λ (X : Work). again (length (blocks X)) X) (sym done_work)
-        ∙ ap (λ (k : ℕ). again k filled) (length-take-le (block_count_of m') s few ∙ sym p.turns)
+        ∙ ap (λ (k : ℕ). again k stored) (length-take-le (block_count_of m') s few ∙ sym p.turns)
 
-    taking : {d₂ : Draft} {m₂ o₂ : List ℕ} {s₂ : List Block} → left d₂ m₂ o₂ s₂ ≡ left_by (again e.turns filled) o'
+    taking : {d₂ : Draft} {m₂ o₂ : List ℕ} {s₂ : List Block} → left d₂ m₂ o₂ s₂ ≡ left_by (again e.turns stored) o'
         → outcome R o core ≡ record { reply = accepts d₂.at; counters = d₂.counters; memory = m₂; store = s₂; output = o₂ }
     unfolding outcome answer_of
     taking {d₂} {m₂} {o₂} {s₂} turned =
-        let all : left d₂ m₂ o₂ s₂ ≡ left_by (again e.turns filled) o =
+        let all : left d₂ m₂ o₂ s₂ ≡ left_by (again e.turns stored) o =
         left_then (again e.turns) before_d o done_left turned (again_longer e.turns before_d) ∙ ap (λ (X : Work). left_by (again e.turns X) o) (sym done_work) in
         ap (outcome R o) (is ∙ ap (λ (i : ℕ). answer_of i (settle (f (begin R)))) a.accepted ∙ ap accepts settles)
         ∙ sym (ap (λ (l : Left). record { reply = accepts l.at; counters = l.counters; memory = l.memory; store = l.store; output = l.output }) all)
@@ -92,7 +93,7 @@ module _ (R : Replica) (o : List ℕ) where
 
   -- what is handed on to rule D, and what it leaves
   abbrev Turned : Done → List ℕ → List ℕ → Draft → List ℕ → List ℕ → List Block → Type 0
-  Turned e m' o' d₂ m₂ o₂ s₂ = left d₂ m₂ o₂ s₂ ≡ left_by (again e.turns (work_of e.draft m' o' (set R.store e.place e.block))) o'
+  Turned e m' o' d₂ m₂ o₂ s₂ = left d₂ m₂ o₂ s₂ ≡ left_by (again e.turns (work_of e.draft m' o' (filled R.store e.placed))) o'
 
   module _ (r : List ℕ) where
     core_record : record_core by_list R (length o) r ≡ answer_of (record_number (length o) r (begin R)) (settle (on_record r (content r) (begin R)))

@@ -44,11 +44,11 @@ module _ (f : Work → Work) (given : Work → Type 0) {d : Draft} {m m₁ o o�
 
 -- an event of a fresh call, and then the rules
 pub completes : (f : Work → Work) (given : Work → Type 0) {c : Counters} {m m₁ o o₁ : List ℕ} {e : Event} → Gives f given (fresh c) m o e m₁ o₁ → {z : own.Done} {m₂ o₂ : List ℕ}
-    → ((z.place ≡ e.place) × (z.block ≡ e.block)) × (Does phases e.draft m₁ o₁ z.draft m₂ o₂ × ((z.turns ≡ block_count_of m₂) × Ready z.draft m₂ o₂ releases_room))
+    → (z.placed ≡ e.placed) × (Does phases e.draft m₁ o₁ z.draft m₂ o₂ × ((z.turns ≡ block_count_of m₂) × Ready z.draft m₂ o₂ releases_room))
     → Completes f given c m o z m₂ o₂
 completes f given a x =
     let y = gives_then f phases given a x.1.0 phases_longer in
-    record { leaves = λ s l g. rw (x.0.0, x.0.1) (y.leaves s l g); turns = x.1.1.0; ready = x.1.1.1 }
+    record { leaves = λ s l g. rw x.0 (y.leaves s l g); turns = x.1.1.0; ready = x.1.1.1 }
 
 -- ---- the timer
 pub timer_ready : (d : Draft) (m o : List ℕ) (v : ℕ) {e : Event} {m₁ o₁ : List ℕ} → IsU64 v → CountersTyped d.counters → IsBytes m → Ready d m o call_room

@@ -16,7 +16,7 @@ use Rattle.wire.specs.Shape.{bad_length, shape_rules}
 use Rattle.wire.proofs.Frames.{whole_header}
 use Rattle.wire.proofs.Facts.{Quiet, off_judge}
 use Rattle.blocks.specs.declared.Block.{Block}
-use Rattle.blocks.specs.declared.Found.{Found}
+use Rattle.blocks.specs.Store.{Found}
 use Rattle.memory.specs.Layout.{entry_room, block_count_of}
 use Rattle.counters.specs.declared.Counters.{Counters}
 use Rattle.memory.specs.Leaders.{by_list}
@@ -28,9 +28,13 @@ use Rattle.protocol.proofs.call.Proposals.{room_free}
 use Rattle.protocol.proofs.call.Contents.{quiet_append}
 use Rattle.refusals.specs.Number.{answer_of, first_of, or_else}
 use Rattle.refusals.specs.Early.{lent}
-use Rattle.refusals.proofs.Numbers.{else_some, else_none, else_both}
+use Rattle.std.specs.Prelude.{Result, Ok, Err, IfOk}
+use Rattle.settings.specs.declared.refusal.Refusal.{Refusal}
+use Rattle.settings.specs.declared.Height.{Height}
+use Rattle.settings.specs.Refusal.{number, refused}
+use Rattle.refusals.proofs.Numbers.{some_number, else_some, else_none, else_both}
 use Rattle.judge.specs.declared.Want.{Want}
-use Rattle.judge.specs.Want.{asked, record_want, propose_want}
+use Rattle.judge.specs.Want.{Wanted, wanted, asked, record_want, propose_want}
 use Rattle.judge.specs.Late.{looked_up, late_rules, late_propose, record_late, propose_late}
 use Rattle.judge.proofs.Whole.{record_judged_lem, record_passed, record_whole, propose_judged_lem, propose_passed, timer_judged_lem}
 use Rattle.act.specs.declared.Draft.{Draft}
@@ -40,8 +44,7 @@ use Rattle.event.specs.declared.Event.{Event}
 use Rattle.event.specs.Event.{Gives, Asked, Taken, Proposable, safe_of_entry}
 use Rattle.event.proofs.Passing.{passed_taken}
 use Rattle.event.proofs.Records.{content-proposal, content-block}
-use Rattle.perform.specs.declared.Judged.{Judged}
-use Rattle.perform.specs.Perform.{fresh, rules_room, releases_room, call_room, Lent, Accepted, judged_by, Judges, timer_number, propose_number, ProposeFound, record_number, RecordFound}
+use Rattle.perform.specs.Perform.{fresh, rules_room, releases_room, call_room, Lent, Accepted, Judges, timer_number, propose_number, ProposeFound, record_number, RecordFound}
 use Rattle.perform.proofs.Storing.{propose_witness, record_witness}
 use Rattle.perform.proofs.Completing.{event_ready, regions_passed}
 
@@ -59,13 +62,20 @@ pub timer_room : (room v : ℕ) (W : Work) → timer_number room v W ≡ 0 → s
 unfolding timer_number
 timer_room room v W e = store_room W room (quiet_append (region_rules W room) (timer_rules W v) (quiet_of _ _ (λ a. timer_judged_lem W room v a) e)).0
 
--- ---- the number in two steps: before the store is asked, or else with what was found there
-module _ (k : ℕ) (found under : Found) {j : Judged} where
-  pub judged_early : (l : ℕ) → (k ≡ 0 → ⊥) → j ≡ judged_by k found under → j ≡ judged_by (or_else k l) found under
-  judged_early l h e = e ∙ ap (λ (i : ℕ). judged_by i found under) (sym (else_some k l h))
+-- ---- what an `Ok` shows
+shown : {A : Type 0} (r : Result A Refusal) (P Q : A → Type 0) → ((a : A) → refused r ≡ 0 → P a → Q a) → IfOk r P → IfOk r Q
+unfolding refused
+shown (Ok a) P Q f h = f a refl h
+shown (Err e) P Q f h = h
 
-  pub judged_late : {l m : ℕ} → k ≡ 0 → l ≡ m → j ≡ judged_by l found under → j ≡ judged_by (or_else k m) found under
-  judged_late {l} {m} h q e = e ∙ ap (λ (i : ℕ). judged_by i found under) (q ∙ sym (else_none k m h))
+-- ---- refused before the store is asked
+pub judges_early : {A : Type 0} (called : Work → ℕ) (such : A → Work → Type 0) (W : Work) (w : Wanted) (l : ℕ) {p : Result Want Refusal} {q : Result A Refusal} {r t : Refusal}
+    → called W ≡ or_else w.refusal l → wanted p ≡ w → p ≡ Err r → q ≡ Err t → t ≡ r → Judges called such q W
+unfolding wanted refused
+judges_early called such W w l {p} {q} {r} {t} m e f g h =
+    let first : number r ≡ w.refusal = ap (λ (v : Wanted). v.refusal) (rw f at e) in
+    let k : refused q ≡ w.refusal = rw (g, h) first in
+    record { is = k ∙ sym (else_some w.refusal l (λ z. some_number r (first ∙ z))) ∙ sym m; shown = rw g tt }
 
 -- ---- propose
 module _ (room : ℕ) (x : List ℕ) (W : Work) where
@@ -90,7 +100,7 @@ module _ (room : ℕ) (x : List ℕ) (W : Work) where
       placed : (b : Block) → misplaced W b ≡ false → b.height.0 ≤ last_height
       placed b e = ltb-false _ _ (or_right (not (is_held W b.parent && eqb b.height.0 (suc (held_block W b.parent).block.height.0))) (ltb last_height b.height.0) e)
 
-  module _ (w : Want) (found under : Found) (g : ProposeFound room x w found under W) where
+  module _ (w : Wanted) (found under : Found) (g : ProposeFound room x w found under W) where
     propose_number_lem : or_else w.refusal (first_of (late_propose w found under)) ≡ propose_number room x W
     unfolding propose_number propose_late
     propose_number_lem = rw (g.found, g.under, g.want)
@@ -98,14 +108,15 @@ module _ (room : ℕ) (x : List ℕ) (W : Work) where
     propose_found : w.refusal ≡ 0 → propose_number room x W ≡ 0 → Proposable x under.block.height.0 W
     unfolding propose_rules safe_of_entry
     propose_found e z =
-        let q = g.want ∙ (propose_passed W room x (sym (ap (λ (v : Want). v.refusal) g.want) ∙ e)).2 in
-        record { new = (propose_quiet z).1.1.1.0; height = sym (ap (λ (y : Found). y.block.height.0) (g.under ∙ ap (λ (v : Want). looked_up W v v.base) q)) }
+        let q = g.want ∙ (propose_passed W room x (sym (ap (λ (v : Wanted). v.refusal) g.want) ∙ e)).2 in
+        record { new = (propose_quiet z).1.1.1.0; height = sym (ap (λ (y : Found). y.block.height.0) (g.under ∙ ap (λ (v : Wanted). looked_up W v v.base) q)) }
 
     -- a propose is rightly judged
-    pub propose_judges : (j : Judged) → j ≡ judged_by (or_else w.refusal (first_of (late_propose w found under))) found under
-        → Judges (propose_number room x) (Proposable x j.below.0) j.accepted j.refusal W
-    propose_judges j e =
-        rw e (record { told = refl; is = propose_number_lem; shown = λ z. propose_found (else_both w.refusal _ z).0 (sym propose_number_lem ∙ z) })
+    pub propose_judges : (r : Result Height Refusal) → w.refusal ≡ 0 → refused r ≡ first_of (late_propose w found under) → IfOk r (λ h. h ≡ under.block.height)
+        → Judges (propose_number room x) (λ (h : Height). Proposable x h.0) r W
+    propose_judges r z e h =
+        let n : refused r ≡ propose_number room x W = e ∙ sym (else_none w.refusal _ z) ∙ propose_number_lem in
+        record { is = n; shown = shown r _ _ (λ a k b. rw b (propose_found z (sym n ∙ k))) h }
 
 module _ (d : Draft) (m o x : List ℕ) (h : ℕ) (r : Ready d m o call_room) (a : Lent (Accepted (propose_number (length o) x) (Proposable x h)) (work_of d m o)) where
   pub propose_asks : Ready d m o (88 + entry_room + 48) × ((h < last_height) × (block_count_of m < store_length))
@@ -136,7 +147,7 @@ module _ (room : ℕ) (r : List ℕ) (W : Work) where
   pub record_room : record_number room r W ≡ 0 → store_length ≤ length W.store
   record_room e = store_room W room (record_quiet e).0
 
-  module _ (w : Want) (found under : Found) (g : RecordFound room r w found under W) where
+  module _ (w : Wanted) (found under : Found) (g : RecordFound room r w found under W) where
     record_number_lem : or_else w.refusal (first_of (late_rules w found under (content r))) ≡ record_number room r W
     unfolding record_number record_late
     record_number_lem = rw (g.found, g.under, g.want)
@@ -144,20 +155,20 @@ module _ (room : ℕ) (r : List ℕ) (W : Work) where
     record_found : w.refusal ≡ 0 → Asked r found.is W
     unfolding asked
     record_found e =
-        let q = g.want ∙ (record_passed W room r (sym (ap (λ (v : Want). v.refusal) g.want) ∙ e)).3 in
+        let q = g.want ∙ (record_passed W room r (sym (ap (λ (v : Wanted). v.refusal) g.want) ∙ e)).3 in
         record {
-          proposal = λ k. sym (ap (λ (y : Found). y.is) (g.found ∙ ap (λ (v : Want). looked_up W v v.name) (q ∙ ap (asked W.memory) (content-proposal r k))));
-          block = λ k. sym (ap (λ (y : Found). y.is) (g.found ∙ ap (λ (v : Want). looked_up W v v.name) (q ∙ ap (asked W.memory) (content-block r k))));
+          proposal = λ k. sym (ap (λ (y : Found). y.is) (g.found ∙ ap (λ (v : Wanted). looked_up W v v.name) (q ∙ ap (asked W.memory) (content-proposal r k))));
+          block = λ k. sym (ap (λ (y : Found). y.is) (g.found ∙ ap (λ (v : Wanted). looked_up W v v.name) (q ∙ ap (asked W.memory) (content-block r k))));
         }
 
     -- what `late_record` asks: what was not refused so far has its shape
     pub record_shaped : w.refusal ≡ 0 → bad_length r ≡ false
-    record_shaped e = (record_whole W room r (sym (ap (λ (v : Want). v.refusal) g.want) ∙ e)).0
+    record_shaped e = (record_whole W room r (sym (ap (λ (v : Wanted). v.refusal) g.want) ∙ e)).0
 
     -- a record is rightly judged
-    pub record_judges : (j : Judged) → j ≡ judged_by (or_else w.refusal (first_of (late_rules w found under (content r)))) found under
-        → Judges (record_number room r) (Asked r j.held) j.accepted j.refusal W
-    record_judges j e = rw e (record { told = refl; is = record_number_lem; shown = λ z. record_found (else_both w.refusal _ z).0 })
+    pub record_judges : (j : Result Bool Refusal) → w.refusal ≡ 0 → refused j ≡ first_of (late_rules w found under (content r)) → IfOk j (λ t. t ≡ found.is)
+        → Judges (record_number room r) (Asked r) j W
+    record_judges j z e h = record { is = e ∙ sym (else_none w.refusal _ z) ∙ record_number_lem; shown = shown j _ _ (λ a k b. rw b (record_found z)) h }
 
 module _ (d : Draft) (m o r : List ℕ) (t : Bool) (y : Ready d m o call_room) (a : Lent (Accepted (record_number (length o) r) (Asked r t)) (work_of d m o)) (b : IsBytes r) where
   pub record_asks : Ready d m o (entry_room + 48) × ((8 ≤ length r) × Taken m r t)

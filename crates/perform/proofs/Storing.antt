@@ -13,7 +13,7 @@ use Rattle.codec.specs.Bytes.{IsBytes}
 use Rattle.codec.specs.Names.{same_bytes}
 use Rattle.codec.proofs.Le.{bytes_part, bytes_drop}
 use Rattle.codec.proofs.Order.{same_refl, same_eq}
-use Rattle.wire.specs.Content.{Certificate, by_block, by_timeouts, certificate_of, Content, vote, commit, certificate, timeout, proposal, block, release, content, timeout_of}
+use Rattle.wire.specs.Content.{Certificate, by_block, by_timeouts, certificate_of, Content, vote, commit, certificate, timeout, release, content, timeout_of}
 use Rattle.wire.specs.Fields.{kind_of, sender_of, view_of, name_of, progress_of, block_name_of, release_height_of}
 use Rattle.wire.specs.Fit.{IsName, All, Fits}
 use Rattle.wire.specs.Shape.{shape_rules}

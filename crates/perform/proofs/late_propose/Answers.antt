@@ -1,8 +1,15 @@
-use Rattle.perform.proofs.Deciding.{judged_early, judged_late}
+use mathlib.Core.Path.{sym, ◌∙◌}
+use Rattle.std.proofs.lemmas.Result.{err_from_is_err_and, IfOk-at_ok}
+use Rattle.settings.specs.Refusal.{refused}
+use Rattle.refusals.proofs.Numbers.{passed_on, refused_none}
 use Rattle.perform.proofs.late_propose.Goals as goal
 
-pub returns-then-want-ne0 : goal.returns-then-want-ne0
-returns-then-want-ne0 c = judged_early _ c.args.found c.args.under _ c.if-want-ne0.true c.with_found.ensures
+pub returns-in_err-lower-clause-refusal : goal.returns-in_err-lower-clause-refusal
+returns-in_err-lower-clause-refusal c = let p = err_from_is_err_and c.from_residual.result c.from_residual.ensures.1 in passed_on c.in_err-lower.was p.1 p.2 ∙ c.propose_chain.ensures.refusal
 
-pub returns : goal.returns
-returns c = judged_late _ c.args.found c.args.under c.if-want-ne0.false c.propose_chain.ensures c.with_found-2.ensures
+pub returns-clause-refusal : goal.returns-clause-refusal
+unfolding refused
+returns-clause-refusal c = sym (refused_none c.in_ok-lower.was) ∙ c.propose_chain.ensures.refusal
+
+pub returns-clause-below : goal.returns-clause-below
+returns-clause-below c = rw (IfOk-at_ok _ c.in_ok-lower.was c.propose_chain.ensures.below)

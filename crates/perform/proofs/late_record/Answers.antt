@@ -1,11 +1,12 @@
-use Rattle.perform.proofs.Deciding.{judged_early, judged_late}
+use mathlib.Core.Path.{sym, ◌∙◌}
+use Rattle.std.proofs.lemmas.Result.{err_from_is_err_and}
+use Rattle.settings.specs.Refusal.{refused}
+use Rattle.refusals.proofs.Numbers.{passed_on, refused_none}
 use Rattle.perform.proofs.late_record.Goals as goal
 
-pub returns-then-want-ne0 : goal.returns-then-want-ne0
-returns-then-want-ne0 c = judged_early _ c.args.found c.args.under _ c.if-want-ne0.true c.with_found.ensures
+pub returns-in_err-record_chain-clause-refusal : goal.returns-in_err-record_chain-clause-refusal
+returns-in_err-record_chain-clause-refusal c = let p = err_from_is_err_and c.from_residual.result c.from_residual.ensures.1 in passed_on c.in_err-record_chain.was p.1 p.2 ∙ c.record_chain.ensures
 
-pub record_chain-requires : goal.record_chain-requires
-record_chain-requires c = c.requires c.if-want-ne0.false
-
-pub returns : goal.returns
-returns c = judged_late _ c.args.found c.args.under c.if-want-ne0.false c.record_chain.ensures c.with_found-2.ensures
+pub returns-clause-refusal : goal.returns-clause-refusal
+unfolding refused
+returns-clause-refusal c = sym (refused_none c.in_ok-record_chain.was) ∙ c.record_chain.ensures
