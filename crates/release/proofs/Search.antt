@@ -2,29 +2,29 @@
 use Prim.Native.Nat.{ℕ, zero, suc, ◌+◌, ◌-◌, ◌^◌, ◌≤◌, ◌<◌}
 use native.Mathlib.Omega.{arith}
 use mathlib.Core.Path.{◌≡◌, refl, sym, ap, ◌∙◌}
-use mathlib.Core.Bool.{Bool, true, false, cond, ◌&&◌, false≢true, true≢false}
+use mathlib.Core.Bool.{Bool, true, false, cond, ◌&&◌, true≢false}
 use mathlib.Core.List.{List}
-use borrow.Author.Tests.{lt-ltb}
+use borrow.Author.Tests.{lt-ltb, ltb-true, ltb-false}
 use lib.Dec.{ltb}
-use lib.ListN.{take}
+use Rattle.std.specs.Prelude.{Option, Some, None}
 use Rattle.settings.specs.declared.Settings.{Settings}
 use Rattle.settings.specs.Quorum.{largest, last_view, replicas, fast_quorum, slow_quorum}
 use Rattle.blocks.specs.declared.Block.{Block}
-use Rattle.blocks.specs.declared.Found.{Found}
-use Rattle.blocks.specs.Store.{held, descends}
-use Rattle.memory.specs.declared.decided.Choice.{Choice}
-use Rattle.memory.specs.Layout.{settings_of, block_count_of}
+use Rattle.codec.proofs.Order.{and_true}
+use Rattle.blocks.specs.Store.{Found, found, missing, held, descends}
+use Rattle.memory.specs.declared.decided.Quorums.{Quorums}
+use Rattle.memory.specs.Layout.{settings_of}
 use Rattle.memory.specs.Window.{lowest, highest}
-use Rattle.memory.specs.Decided.{no_choice, next_decided, too_few, alone, likely, find_decided}
+use Rattle.memory.specs.Decided.{Choice, Decision, no_choice, chosen, choice_of, decision, next_decided, too_few, alone, likely, find_decided}
 use Rattle.memory.proofs.Passing.{few_none}
 use Rattle.memory.proofs.Sole.{sole_last}
 use Rattle.counters.specs.declared.Counters.{Counters}
-use Rattle.protocol.specs.Work.{Work, view, n, view_now, tip, blocks, held_block}
+use Rattle.protocol.specs.Work.{Work, n, view_now, tip, blocks, held_block}
 use Rattle.protocol.specs.Rules.{tries, enough_to_release, releasable, Pair, lowest_pair, ballot_views}
-use Rattle.release.specs.Search.{standing, seen, target, pair_from, target_of, target_from, lowest_target, first_place, views_after, quorums_of, look_of, goes_to, ends_with, next_view, next_name, step_of, at_next_view, passing, passed, steps_left}
+use Rattle.release.specs.Search.{standing, known_by, seen, target, after_of, pair_from, target_of, target_from, lowest_target, first_place, views_after, quorums_of, leading, next_view, at_next_view, passing, passed, steps_left, Follows}
 use Rattle.release.specs.declared.Place.{Place}
-use Rattle.release.specs.declared.Look.{Look}
 use Rattle.release.specs.declared.Step.{Step}
+use Rattle.release.specs.declared.Step.TheVariants.{On, Ends}
 use Rattle.release.specs.declared.Target.{Target}
 
 -- ---- no quorum is empty
@@ -34,29 +34,30 @@ some_fast s e = omega (arith, e)
 pub some_slow : (s : Settings) {z : ℕ} → z ≡ slow_quorum s → 1 ≤ z
 some_slow s e = omega (arith, e)
 
--- what a step s at the place p says of the search in W
-pub record Follows (p : Place) (W : Work) (s : Step) : Type 0 where
-  pub on : s.goes ≡ true → target_from p W ≡ target_from s.place W
-  pub off : s.goes ≡ false → target_from p W ≡ s.target
-  pub less : s.goes ≡ true → n W ≤ largest → steps_left s.place < steps_left p
-  pub within : s.goes ≡ true → s.place.view.0 + s.place.views ≤ p.view.0 + p.views
+-- ---- a view's names above a, of which j are tried at most, and the k views after it
+abbrev pair_at : ℕ → Choice → ℕ → ℕ → Work → Pair
+pair_at v a k j W = let x = releasable v W j a in cond x.some (record { at = v; name = x }) (lowest_pair (suc v) k W)
 
-abbrev placed : ℕ → Choice → ℕ → ℕ → Place
-placed v a k j = record { view = view v; some = a.some; name = a.name; views = k; tries = j }
+next_pair : (v k : ℕ) (W : Work) → 0 < k → lowest_pair (suc v) k W ≡ pair_at (v + 1) no_choice (k - 1) (tries W) W
+unfolding lowest_pair
+next_pair v zero W h = absurd (omega (arith, h))
+next_pair v (suc k) W h = let e : v + 1 ≡ suc v = omega arith in let f : suc k - 1 ≡ k = omega arith in rw (e, f) refl
 
--- ---- no name of the view is left
-next_pair : (v k : ℕ) (W : Work) → lowest_pair (suc v) (suc k) W ≡ pair_from (placed (v + 1) no_choice (suc k - 1) (tries W)) W
-unfolding lowest_pair pair_from
-next_pair v k W = let e : v + 1 ≡ suc v = omega arith in let f : suc k - 1 ≡ k = omega arith in rw (e, f) refl
-
-view_ends : (v : ℕ) (a : Choice) (k j : ℕ) (W : Work) → pair_from (placed v a k j) W ≡ lowest_pair (suc v) k W → Follows (placed v a k j) W (next_view (placed v a k j) (tries W))
+-- no name of the view is left
+view_ends : (p : Place) (W : Work) → n W ≤ largest → pair_from p W ≡ lowest_pair (suc p.view.0) p.views W → Follows p W (next_view W.memory p)
 unfolding pair_from target_of lowest_pair target_from next_view steps_left
-view_ends v a zero j W e = record { on = λ h. absurd (false≢true h); off = λ h. rw e refl; less = λ h l. absurd (false≢true h); within = λ h. absurd (false≢true h) }
-view_ends v a (suc k) j W e = rw (lt-ltb 0 (suc k) (omega arith)) (record { on = λ h. ap (λ (z : Pair). target_of z W) (e ∙ next_pair v k W); off = λ h. absurd (true≢false h); less = λ h l. omega arith; within = λ h. omega arith })
+view_ends p W small e = go (ltb 0 p.views) refl
+  where
+    go : (t : Bool) → ltb 0 p.views ≡ t → Follows p W (cond t (On (at_next_view W.memory p)) (Ends None))
+    go true h =
+        let more : 0 < p.views = ltb-true 0 p.views h in
+        (ap (λ (z : Pair). target_of z W) (sym (e ∙ next_pair p.view.0 p.views W more)), (omega (arith, small, more), omega (arith, more)))
+    go false h = let none : p.views ≡ 0 = omega (arith, ltb-false 0 p.views h) in rw (e, none) refl
 
-none_tried : (v : ℕ) (a : Choice) (k : ℕ) (W : Work) → pair_from (placed v a k 0) W ≡ lowest_pair (suc v) k W
-unfolding pair_from releasable
-none_tried v a k W = refl
+none_tried : (v : ℕ) (a : Choice) (k j : ℕ) (W : Work) → j < 1 → pair_at v a k j W ≡ lowest_pair (suc v) k W
+unfolding releasable
+none_tried v a k zero W h = refl
+none_tried v a k (suc j) W h = absurd (omega (arith, h))
 
 module _ (v : ℕ) (a : Choice) (W : Work) where
   abbrev x : Choice
@@ -65,91 +66,50 @@ module _ (v : ℕ) (a : Choice) (W : Work) where
   abbrev releases : Bool
   releases = (held_block W x.name).is && descends (tip W) (blocks W) (held_block W x.name).block
 
-  none_found : (k j : ℕ) → x.some ≡ false → pair_from (placed v a k j) W ≡ lowest_pair (suc v) k W
-  unfolding pair_from releasable
+  none_found : (k j : ℕ) → x.some ≡ false → pair_at v a k j W ≡ lowest_pair (suc v) k W
+  unfolding releasable
   none_found k zero e = refl
   none_found k (suc j) e = rw e refl
 
-  it_is : (k j : ℕ) → x.some ≡ true → releases ≡ true → target_from (placed v a k (suc j)) W ≡ target v (held_block W x.name).block
-  unfolding pair_from releasable target_of target_from
-  it_is k j e f = rw (e, f) refl
+  it_is : (k j : ℕ) → 1 ≤ j → x.some ≡ true → releases ≡ true → target_of (pair_at v a k j W) W ≡ Some (target v (held_block W x.name).block)
+  unfolding releasable target_of
+  it_is k zero h e f = absurd (omega (arith, h))
+  it_is k (suc j) h e f = rw (e, f) refl
 
-  it_is_not : (k j : ℕ) → x.some ≡ true → releases ≡ false → pair_from (placed v a k (suc j)) W ≡ pair_from (placed v x k (suc j - 1)) W
-  unfolding pair_from releasable
-  it_is_not k j e f = let g : suc j - 1 ≡ j = omega arith in rw (e, f, g) refl
+  it_is_not : (k j : ℕ) → 1 ≤ j → x.some ≡ true → releases ≡ false → pair_at v a k j W ≡ pair_at v x k (j - 1) W
+  unfolding releasable
+  it_is_not k zero h e f = absurd (omega (arith, h))
+  it_is_not k (suc j) h e f = let g : suc j - 1 ≡ j = omega arith in rw (e, f, g) refl
 
-module _ (v : ℕ) (a : Choice) (W : Work) (small : n W ≤ largest) where
-  abbrev here : Choice
-  here = x v a W
+-- the one name that a view decides is not to be released
+names_done : (v : ℕ) (a : Choice) (W : Work) → n W ≤ largest → alone W.memory (enough_to_release v W) (likely W.memory (enough_to_release v W)) ≡ true
+    → (k j : ℕ) → 1 ≤ j → (x v a W).some ≡ true → releases v a W ≡ false → pair_at v a k j W ≡ lowest_pair (suc v) k W
+names_done v a W small only k j h e f =
+    let q = enough_to_release v W in
+    let here : Choice = x v a W in
+    let last : next_decided W.memory q here ≡ no_choice = sole_last W.memory q small (likely W.memory q) only (some_fast (settings_of W.memory) refl) (some_slow (settings_of W.memory) refl) a e in
+    it_is_not v a W k j h e f ∙ none_found v here W k (j - 1) (ap (λ (z : Choice). z.some) last)
 
-  abbrev only_one_name : Bool
-  only_one_name = alone W.memory (enough_to_release v W) (likely W.memory (enough_to_release v W))
+-- ---- what is held of a name, if it leads to the tip
+module _ (tip : Block) (store : List Block) (x : List ℕ) where
+  abbrev of_name : Found
+  of_name = held tip store x
 
-  -- the one name that the view decides is not to be released
-  names_done : only_one_name ≡ true → (k j : ℕ) → here.some ≡ true → releases v a W ≡ false → pair_from (placed v a k (suc j)) W ≡ lowest_pair (suc v) k W
-  names_done only k j e f =
-      let q = enough_to_release v W in
-      let last : next_decided W.memory q here ≡ no_choice = sole_last W.memory q small (likely W.memory q) only (some_fast (settings_of W.memory) refl) (some_slow (settings_of W.memory) refl) a e in
-      it_is_not v a W k j e f ∙ none_found v here W k (suc j - 1) (ap (λ (z : Choice). z.some) last)
+  leading_some : (b : Block) → found b ≡ leading tip store x → ((of_name.is && descends tip store of_name.block) ≡ true) × (of_name.block ≡ b)
+  unfolding leading
+  leading_some b e = go (of_name.is && descends tip store of_name.block) refl e
+    where
+      go : (t : Bool) → (of_name.is && descends tip store of_name.block) ≡ t → found b ≡ cond t of_name missing → ((of_name.is && descends tip store of_name.block) ≡ true) × (of_name.block ≡ b)
+      go true f e = (f, sym (ap (λ (z : Found). z.block) e))
+      go false f e = absurd (true≢false (ap (λ (z : Found). z.is) e))
 
-  found : (k j : ℕ) (s t u : Bool) → here.some ≡ s → releases v a W ≡ t → only_one_name ≡ u
-      → Follows (placed v a k j) W (cond (s && ltb 0 j) (cond t (ends_with (placed v a k j) (target v (held_block W here.name).block)) (cond u (next_view (placed v a k j) (tries W)) (goes_to (placed v here k (j - 1))))) (next_view (placed v a k j) (tries W)))
-  unfolding target_from steps_left
-  found k zero true t u e f o = view_ends v a k 0 W (none_tried v a k W)
-  found k zero false t u e f o = view_ends v a k 0 W (none_tried v a k W)
-  found k (suc j) false t u e f o = view_ends v a k (suc j) W (none_found v a W k (suc j) e)
-  found k (suc j) true true u e f o =
-      rw (lt-ltb 0 (suc j) (omega arith)) (record { on = λ h. absurd (false≢true h); off = λ h. it_is v a W k j e f; less = λ h l. absurd (false≢true h); within = λ h. absurd (false≢true h) })
-  found k (suc j) true false true e f o = rw (lt-ltb 0 (suc j) (omega arith)) (view_ends v a k (suc j) W (names_done o k j e f))
-  found k (suc j) true false false e f o =
-      rw (lt-ltb 0 (suc j) (omega arith)) (record { on = λ h. ap (λ (z : Pair). target_of z W) (it_is_not v a W k j e f); off = λ h. absurd (true≢false h); less = λ h l. omega arith; within = λ h. omega arith })
-
--- ---- ONE STEP
-pub follows : (p : Place) (W : Work) → n W ≤ largest
-    → let l = look_of W.memory p in let b = held_block W l.name in Follows p W (step_of p l b (descends (tip W) (blocks W) b.block))
-unfolding look_of find_decided step_of next_name
-follows p W small = found p.view.0 (record { some = p.some; name = p.name }) W small p.views p.tries _ _ _ refl refl refl
-
--- where no name was found, nothing else matters
-step_none : (p : Place) (l : Look) (b c : Found) (d e : Bool) → l.some ≡ false → step_of p l b d ≡ step_of p l c e
-unfolding step_of
-step_none p l b c d e h = rw h refl
-
--- where no block is held, it is no matter whether it descends
-step_missing : (p : Place) (l : Look) (b : Found) (d e : Bool) → b.is ≡ false → step_of p l b d ≡ step_of p l b e
-unfolding step_of
-step_missing p l b d e h = rw h refl
-
--- where one was found, it is looked for in all that are held
-count_all : (m : List ℕ) (p : Place) → (look_of m p).some ≡ true → (look_of m p).count ≡ block_count_of m
-unfolding look_of
-count_all m p h = rw h refl
-
--- as the code takes it
-pub stepped : (tip : Block) (m : List ℕ) (entries : List Block) (p : Place) (l : Look) (b : Found) (below : ℕ) (down : Bool) (s : Step) → replicas (settings_of m) ≤ largest → l ≡ look_of m p
-    → b ≡ held tip (take l.count entries) l.name → below ≡ cond b.is l.count 0 → down ≡ descends tip (take below entries) b.block → s ≡ step_of p l b down
-    → Follows p (seen tip m entries) s
-stepped tip m entries p l b below down s small e₀ e₁ e₂ e₃ e₄ = go l.some refl
-  where
-    W : Work
-    W = seen tip m entries
-
-    c : Found
-    c = held_block W l.name
-
-    is : step_of p l b down ≡ step_of p l c (descends tip (blocks W) c.block) → Follows p W s
-    is h = rw (e₄, h, e₀) (follows p W small)
-
-    walked : (t : Bool) → b.is ≡ t → step_of p l b down ≡ step_of p l b (descends tip (take l.count entries) b.block)
-    walked false f = step_missing p l b down (descends tip (take l.count entries) b.block) f
-    walked true f = let k : below ≡ l.count = e₂ ∙ ap (λ (z : Bool). cond z l.count 0) f in ap (step_of p l b) (e₃ ∙ ap (λ (z : ℕ). descends tip (take z entries) b.block) k)
-
-    go : (t : Bool) → l.some ≡ t → Follows p W s
-    go false h = is (step_none p l b c down (descends tip (blocks W) c.block) h)
-    go true h =
-        let n : l.count ≡ block_count_of m = ap (λ (z : Look). z.count) e₀ ∙ count_all m p (sym (ap (λ (z : Look). z.some) e₀) ∙ h) in
-        let e-b : b ≡ c = e₁ ∙ ap (λ (k : ℕ). held tip (take k entries) l.name) n in
-        is (walked b.is refl ∙ rw (n, e-b) refl)
+  leading_none : missing ≡ leading tip store x → (of_name.is && descends tip store of_name.block) ≡ false
+  unfolding leading
+  leading_none e = go (of_name.is && descends tip store of_name.block) refl e
+    where
+      go : (t : Bool) → (of_name.is && descends tip store of_name.block) ≡ t → missing ≡ cond t of_name missing → (of_name.is && descends tip store of_name.block) ≡ false
+      go true f e = absurd (true≢false (sym (and_true _ _ f).0 ∙ sym (ap (λ (z : Found). z.is) e)))
+      go false f e = f
 
 -- ---- VIEWS THAT ARE PASSED OVER
 -- the search from q is the search from p, and no longer
@@ -160,15 +120,13 @@ pub record Passes (p : Place) (W : Work) (q : Place) : Type 0 where
 
 module _ (W : Work) (small : n W ≤ largest) where
   one_passed : (p : Place) → too_few W.memory (quorums_of W.memory p.view.0) ≡ true → 1 ≤ p.views → Passes p W (at_next_view W.memory p)
-  unfolding target_from steps_left next_view
+  unfolding pair_from next_view
   one_passed p few more =
-      let a : Choice = record { some = p.some; name = p.name } in
-      let none : next_decided W.memory (enough_to_release p.view.0 W) a ≡ no_choice = few_none W.memory (quorums_of W.memory p.view.0) small few a in
-      let f = view_ends p.view.0 a p.views p.tries W (none_found p.view.0 a W p.views p.tries (ap (λ (z : Choice). z.some) none)) in
-      let goes : next_view p (tries W) ≡ goes_to (at_next_view W.memory p) = rw (lt-ltb 0 p.views more) refl in
+      let none : next_decided W.memory (enough_to_release p.view.0 W) (after_of p) ≡ no_choice = few_none W.memory (quorums_of W.memory p.view.0) small few (after_of p) in
+      let f = rw (lt-ltb 0 p.views more) at (view_ends p W small (none_found p.view.0 (after_of p) W p.views p.tries (ap (λ (z : Choice). z.some) none))) in
       record {
-        same = sym (f.on (ap (λ (z : Step). z.goes) goes) ∙ ap (λ (z : Step). target_of (pair_from z.place W) W) goes);
-        steps = omega (arith, small, more);
+        same = f.0;
+        steps = omega (arith, f.1.0);
         within = omega (arith, more);
       }
 
@@ -184,7 +142,7 @@ module _ (W : Work) (small : n W ≤ largest) where
           let o = one_passed p e (omega (arith, h)) in
           record { same = r.same ∙ o.same; steps = omega (arith, r.steps, o.steps); within = r.within ∙ o.within }
 
--- as the code takes it
+-- the place where they end, as the code takes it
 pub passes : (tip : Block) (m : List ℕ) (entries : List Block) (p q : Place) → replicas (settings_of m) ≤ largest → q ≡ passed m p → Passes p (seen tip m entries) q
 unfolding passed
 passes tip m entries p q small e = rw e (views_passed (seen tip m entries) small p.views p (omega arith))
@@ -209,6 +167,68 @@ pass_stop m p few = go p.views
 pub pass_end : (m : List ℕ) (p : Place) → p.views ≤ 0 → p ≡ passed m p
 unfolding passed passing
 pass_end m p h = let e : p.views ≡ 0 = omega (arith, h) in rw e refl
+
+-- ---- ONE STEP from a place: p is where the views that are passed over end, and what was found there is a name, if there is one, and whether the view decides no other
+module _ (tip : Block) (m : List ℕ) (entries : List Block) (first p : Place) (small : replicas (settings_of m) ≤ largest) (p_is : p ≡ passed m first) (q : Quorums) (q_is : q ≡ quorums_of m p.view.0)
+    (o : Option (List ℕ)) (only : Bool) (is : decision (choice_of o) only ≡ find_decided m q (after_of p)) where
+  abbrev W : Work
+  W = seen tip m entries
+
+  from_first : (s : Step) → Follows p W s → Follows first W s
+  from_first (On r) h = let over = passes tip m entries first p small p_is in (h.0 ∙ over.same, (omega (arith, over.steps, h.1.0), omega (arith, over.within, h.1.1)))
+  from_first (Ends t) h = h ∙ (passes tip m entries first p small p_is).same
+
+  abbrev here : Choice
+  here = x p.view.0 (after_of p) W
+
+  found_is : decision (choice_of o) only ≡ decision here (alone m (enough_to_release p.view.0 W) (likely m (enough_to_release p.view.0 W)))
+  unfolding find_decided
+  found_is = is ∙ ap (λ (z : Quorums). find_decided m z (after_of p)) q_is
+
+  name_is : choice_of o ≡ here
+  name_is = ap (λ (z : Decision). let y : Choice = record { some = z.some; name = z.name } in y) found_is
+
+  -- no name of the view is left
+  next : pair_from p W ≡ lowest_pair (suc p.view.0) p.views W → Follows first W (next_view m p)
+  next e = from_first (next_view m p) (view_ends p W small e)
+
+  pub untried : p.tries < 1 → Follows first W (next_view m p)
+  unfolding pair_from
+  untried h = next (none_tried p.view.0 (after_of p) p.views p.tries W h)
+
+  pub nothing : o ≡ None → Follows first W (next_view m p)
+  unfolding pair_from
+  nothing e = next (none_found p.view.0 (after_of p) W p.views p.tries (ap (λ (z : Choice). z.some) (sym name_is ∙ ap choice_of e)))
+
+  module _ (name : List ℕ) (e : o ≡ Some name) (some : 1 ≤ p.tries) where
+    here_is : here ≡ chosen name
+    here_is = sym name_is ∙ ap choice_of e
+
+    there : here.some ≡ true
+    there = ap (λ (z : Choice). z.some) here_is
+
+    pub ends : (b : Block) → found b ≡ leading tip (blocks W) name → Follows first W (Ends (Some (record { view = p.view; block = b })))
+    unfolding target_from pair_from
+    ends b f =
+        let l = leading_some tip (blocks W) name b f in
+        from_first (Ends (Some (record { view = p.view; block = b })))
+        (sym (it_is p.view.0 (after_of p) W p.views p.tries some there (rw here_is l.0) ∙ ap (λ (z : Choice). Some (target p.view.0 (held_block W z.name).block)) here_is ∙ ap (λ (z : Block). Some (target p.view.0 z)) l.1))
+
+    module _ (f : missing ≡ leading tip (blocks W) name) where
+      no : releases p.view.0 (after_of p) W ≡ false
+      no = rw here_is (leading_none tip (blocks W) name f)
+
+      pub done : only ≡ true → Follows first W (next_view m p)
+      unfolding pair_from
+      done g = next (names_done p.view.0 (after_of p) W small (sym (ap (λ (z : Decision). z.only) found_is) ∙ g) p.views p.tries some there no)
+
+      pub another : Follows first W (On (record { view = p.view; after = Some name; views = p.views; tries = p.tries - 1 }))
+      unfolding target_from pair_from steps_left
+      another =
+          from_first (On (record { view = p.view; after = Some name; views = p.views; tries = p.tries - 1 })) (
+            ap (λ (z : Pair). target_of z W) (rw (← here_is) (sym (it_is_not p.view.0 (after_of p) W p.views p.tries some there no))),
+            (omega (arith, some), omega arith),
+          )
 
 -- ---- WHERE IT BEGINS
 module _ (m : List ℕ) (first : ℕ) where
@@ -242,7 +262,7 @@ unfolding first_place
 first_within v m h = omega (arith, after_most m (lowest v) (highest v - lowest v))
 
 module _ (W : Work) (small : n W ≤ largest) where
-  abbrev lowest_of : ℕ → ℕ → Target
+  abbrev lowest_of : ℕ → ℕ → Option Target
   lowest_of v k = target_of (lowest_pair v k W) W
 
   none_in : (v : ℕ) → too_few W.memory (quorums_of W.memory v) ≡ true → (k : ℕ) → lowest_pair v (suc k) W ≡ lowest_pair (suc v) k W
@@ -301,10 +321,13 @@ pub from_seen : (p : Place) (c : Counters) (m : List ℕ) (entries : List Block)
 unfolding target_from pair_from target_of
 from_seen p c m entries =
     let W = standing c m entries in
-    rw (releasable-bare p.view.0 W p.tries (record { some = p.some; name = p.name }), pair_bare (suc p.view.0) p.views W) refl
+    rw (releasable-bare p.view.0 W p.tries (after_of p), pair_bare (suc p.view.0) p.views W) refl
 
--- and so what was written is no matter
-pub target_standing : (W : Work) → lowest_target W ≡ lowest_target (standing W.counters W.memory W.store)
+-- and so other counters and what was written are no matter
+pub target_known : (W : Work) → lowest_target W ≡ lowest_target (standing (known_by W.counters.view W.counters.tip) W.memory W.store)
 unfolding target_of lowest_target
-target_standing W =
-    rw (pair_bare (lowest (view_now W)) (ballot_views W) W, pair_bare (lowest (view_now W)) (ballot_views W) (standing W.counters W.memory W.store)) refl
+target_known W =
+    rw (
+      pair_bare (lowest (view_now W)) (ballot_views W) W,
+      pair_bare (lowest (view_now W)) (ballot_views W) (standing (known_by W.counters.view W.counters.tip) W.memory W.store),
+    ) refl

@@ -3,4 +3,4 @@ use Rattle.release.proofs.first_place.Goals as goal
 
 pub returns : goal.returns
 unfolding first_place
-returns c = rw (c.views_after.ensures, ← c.highest.ensures, ← c.lowest-low.ensures, c.n-n.ensures, c.settings.ensures)
+returns c = rw (c.views_after.ensures, c.tries.ensures, ← c.highest.ensures, ← c.lowest-low.ensures)
