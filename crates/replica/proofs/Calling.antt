@@ -2,16 +2,24 @@
 use Prim.Native.Nat.{ℕ, ◌*◌, ◌^◌, ◌≤◌, ◌<◌}
 use native.Mathlib.Omega.{arith}
 use mathlib.Core.Path.{◌≡◌, refl, sym, ap, ◌∙◌}
-use mathlib.Core.Bool.{Bool, true, false, cond}
+use mathlib.Core.Bool.{Bool, cond}
 use mathlib.Core.List.{List}
-use borrow.Author.Tests.{eqb-false}
+use borrow.Author.Tests.{eq-eqb, ne_eqb}
+use Rattle.std.specs.Prelude.{Result, Ok, Err}
+use Rattle.std.proofs.lemmas.Result.{IfOk-at_ok}
+use Rattle.settings.specs.declared.refusal.Refusal.{Refusal}
+use Rattle.settings.specs.declared.Height.{Height}
+use Rattle.settings.specs.Refusal.{number, refused, answer}
+use Rattle.codec.specs.Names.{zero_name}
+use Rattle.refusals.proofs.Numbers.{some_number, refused_none, refused_some}
+use Rattle.judge.specs.Want.{Wanted, nothing, wanted}
 use lib.Dec.{eqb}
 use Rattle.settings.specs.Answer.{Answer, accepts, refuses}
-use lib.ListN.{length, take, set}
+use lib.ListN.{length, take}
 use Rattle.wire.specs.Fields.{release_length}
 use Rattle.wire.specs.Content.{content}
 use Rattle.blocks.specs.declared.Block.{Block}
-use Rattle.blocks.specs.declared.Found.{Found}
+use Rattle.blocks.specs.Store.{Found}
 use Rattle.blocks.proofs.Dropping.{held_within}
 use Rattle.memory.specs.Layout.{block_count_of}
 use Rattle.counters.specs.declared.Counters.{Counters}
@@ -32,8 +40,7 @@ use Rattle.act.specs.declared.Draft.{Draft}
 use Rattle.act.specs.Draft.{work_of, left, left_by}
 use Rattle.act.proofs.Steps.{ready_less, ready_facts}
 use Rattle.perform.specs.declared.Done.{Done}
-use Rattle.event.specs.Event.{Always, Asked, Proposable}
-use Rattle.perform.specs.declared.Judged.{Judged}
+use Rattle.event.specs.Event.{Always, Asked, Proposable, filled}
 use Rattle.perform.specs.Perform.{Judges, Accepted, Completes, timer_number, propose_number, record_number}
 use Rattle.perform.proofs.Calls.{record_refused, record_taken_lem, propose_refused, propose_taken_lem, timer_refused, timer_taken_lem}
 use Rattle.replica.specs.declared.Reply.{Reply}
@@ -43,18 +50,26 @@ use Rattle.replica.specs.Reply.{reply_of, lent_to, Replied, replied, replied_by,
 pub concludes : {f : Work → Work} {given : Work → Type 0} {c : Counters} {m o : List ℕ} {e : Done} {m' o' : List ℕ} (s : List Block) → Completes f given c m o e m' o' → Concludes e m' o' s
 concludes {e = e} {m' = m'} {o' = o'} s a =
     let R = a.ready in
-    let fits : release_length * length (take (block_count_of m') (set s e.place e.block)) ≤ release_length * store_length =
-    omega (arith, (held_within (block_count_of m') (set s e.place e.block)).0, (ready_facts e.draft m' o' R).blocks) in
+    let fits : release_length * length (take (block_count_of m') (filled s e.placed)) ≤ release_length * store_length =
+    omega (arith, (held_within (block_count_of m') (filled s e.placed)).0, (ready_facts e.draft m' o' R).blocks) in
     record {
       few = omega (arith, a.turns, (ready_facts e.draft m' o' R).blocks);
       within = omega (arith, R.room);
       ready = λ _. ready_less e.draft m' o' (release_length * store_length) _ fits R;
     }
 
--- ---- what was judged, where it is refused
-module _ {number : Work → ℕ} {such : Work → Type 0} {t : Bool} {k : ℕ} {W : Work} (j : Judges number such t k W) where
-  pub is_refused : t ≡ false → k ≡ 0 → ⊥
-  is_refused h = eqb-false k 0 (sym j.told ∙ h)
+-- ---- what was judged, where it is accepted
+pub taken : {A : Type 0} {number : Work → ℕ} {such : A → Work → Type 0} {j : Result A Refusal} {a : A} {W : Work} → Judges number such j W → j ≡ Ok a → Accepted number (such a) W
+taken {such = such} {W = W} d e = record { accepted = sym d.is ∙ refused_none e; asked = IfOk-at_ok (λ b. such b W) e d.shown }
+
+-- what `?` passes on is replied as its number
+pub reply_err : {A : Type 0} {p : Result A Refusal} {q : Result ℕ Refusal} {r t : Refusal} → p ≡ Err r → q ≡ Err t → t ≡ r → reply_of (answer q) ≡ reply_of (refuses (refused p))
+unfolding answer refused
+reply_err e f g = rw (e, f, g)
+
+pub reply_ok : (k : ℕ) → reply_of (accepts k) ≡ reply_of (answer (Ok k))
+unfolding answer
+reply_ok k = refl
 
 pub timer_numbered : {k : ℕ} (room v : ℕ) (W : Work) → k ≡ first_of (region_rules W room then timer_rules W v) → k ≡ timer_number room v W
 unfolding timer_number
@@ -70,19 +85,21 @@ module _ (c : Counters) (m o : List ℕ) (s : List Block) where
   unfolding outcome
   stays x k r e q = rw (e, q)
 
-  module _ (j : Judged) (r : Reply) (said : r ≡ reply_of (refuses j.refusal)) (off : j.accepted ≡ false) where
-    pub record_unmade : (b : List ℕ) → Judges (record_number (length o) b) (Asked b j.held) j.accepted j.refusal (lent c m s) → replied r c m s o ≡ replied_by (record_call by_list R o b)
-    record_unmade b a = stays _ j.refusal r (record_refused R o b j.refusal a.is (is_refused a off)) said
+  pub record_unmade : (b : List ℕ) {j : Result Bool Refusal} {q : Result ℕ Refusal} {r t : Refusal} → Judges (record_number (length o) b) (Asked b) j (lent c m s) → j ≡ Err r → q ≡ Err t → t ≡ r
+      → replied (reply_of (answer q)) c m s o ≡ replied_by (record_call by_list R o b)
+  record_unmade b a e f g = stays _ _ _ (record_refused R o b _ a.is (refused_some e)) (reply_err e f g)
 
-    pub propose_unmade : (x : List ℕ) → Judges (propose_number (length o) x) (Proposable x j.below.0) j.accepted j.refusal (lent c m s) → replied r c m s o ≡ replied_by (propose_call by_list R o x)
-    propose_unmade x a = stays _ j.refusal r (propose_refused R o x j.refusal a.is (is_refused a off)) said
+  pub propose_unmade : (x : List ℕ) {j : Result Height Refusal} {q : Result ℕ Refusal} {r t : Refusal} → Judges (propose_number (length o) x) (λ (h : Height). Proposable x h.0) j (lent c m s) → j ≡ Err r → q ≡ Err t → t ≡ r
+      → replied (reply_of (answer q)) c m s o ≡ replied_by (propose_call by_list R o x)
+  propose_unmade x a e f g = stays _ _ _ (propose_refused R o x _ a.is (refused_some e)) (reply_err e f g)
 
-  pub timer_unmade : (v k : ℕ) (goes : Bool) (r : Reply) → r ≡ reply_of (refuses k) → goes ≡ false → (goes ≡ eqb k 0) × (k ≡ timer_number (length o) v (lent c m s)) → replied r c m s o ≡ replied_by (timer_call R o v)
-  timer_unmade v k goes r said off a = stays _ k r (timer_refused R o v k a.1 (eqb-false k 0 (sym a.0 ∙ off))) said
+  pub timer_unmade : (v : ℕ) {A : Type 0} {j : Result A Refusal} {q : Result ℕ Refusal} {r t : Refusal} → refused j ≡ timer_number (length o) v (lent c m s) → j ≡ Err r → q ≡ Err t → t ≡ r
+      → replied (reply_of (answer q)) c m s o ≡ replied_by (timer_call R o v)
+  timer_unmade v a e f g = stays _ _ _ (timer_refused R o v _ a (refused_some e)) (reply_err e f g)
 
   -- after rule D
   module _ (short : length s < 2 ^ 64) (e : Done) (m' o' : List ℕ) (d : Draft) (m₂ o₂ : List ℕ) (s₂ : List Block)
-      (turned : left d m₂ o₂ s₂ ≡ left_by (again e.turns (work_of e.draft m' o' (set s e.place e.block))) o') (r : Reply) (said : r ≡ reply_of (accepts d.at)) where
+      (turned : left d m₂ o₂ s₂ ≡ left_by (again e.turns (work_of e.draft m' o' (filled s e.placed))) o') (r : Reply) (said : r ≡ reply_of (accepts d.at)) where
     answers : (x : Outcome) → x ≡ record { reply = accepts d.at; counters = d.counters; memory = m₂; store = s₂; output = o₂ } → replied r d.counters m₂ s₂ o₂ ≡ replied_by x
     answers x y = rw said (ap replied_by (sym y))
 
@@ -98,44 +115,55 @@ module _ (c : Counters) (m o : List ℕ) (s : List Block) where
     timer_made v a p = answers _ (timer_taken_lem R o v (record { accepted = a; asked = tt }) short p turned)
 
 -- ---- a call with contents: the call without them where they refuse nothing, or else what they refuse it by
-module _ (c c' : Counters) (m o : List ℕ) (s : List Block) (x : Replied) (due : ℕ) (goes : Bool) (stays : c' ≡ c) (asked : goes ≡ eqb due 0) where
-  -- of the two cores
-  either : (plain with : Replica → Answer Work) → with (lent_to c m s) ≡ cond (eqb due 0) (plain (lent_to c m s)) (refuses due)
-      → x ≡ cond goes (replied_by (outcome (lent_to c' m s) o (plain (lent_to c' m s)))) (replied_by (outcome (lent_to c' m s) o (refuses due))) → x ≡ replied_by (outcome (lent_to c m s) o (with (lent_to c m s)))
-  either plain with e h =
-      let R = lent_to c m s in
-      h ∙ ap (λ (d : Counters). cond goes (replied_by (outcome (lent_to d m s) o (plain (lent_to d m s)))) (replied_by (outcome (lent_to d m s) o (refuses due)))) stays
-      ∙ ap (λ (t : Bool). cond t (replied_by (outcome R o (plain R))) (replied_by (outcome R o (refuses due)))) asked ∙ (go (eqb due 0) ∙ sym (ap (λ (a : Answer Work). replied_by (outcome R o a)) e))
-    where
-      go : (t : Bool) → cond t (replied_by (outcome (lent_to c m s) o (plain (lent_to c m s)))) (replied_by (outcome (lent_to c m s) o (refuses due)))
-          ≡ replied_by (outcome (lent_to c m s) o (cond t (plain (lent_to c m s)) (refuses due)))
-      go true = refl
-      go false = refl
+module _ (c : Counters) (m o : List ℕ) (s : List Block) where
+  abbrev L : Replica
+  L = lent_to c m s
 
-  pub record_with_is : (b k : List ℕ) → due ≡ record_due (lent c m s) (length o) b k → x ≡ cond goes (replied_by (record_call by_list (lent_to c' m s) o b)) (replied_by (outcome (lent_to c' m s) o (refuses due)))
-      → x ≡ replied_by (record_call_with by_list (lent_to c m s) o b (given k))
-  unfolding record_call record_call_with
-  record_with_is b k e h =
-      either (λ R. record_core by_list R (length o) b) (λ R. record_core_with by_list R (length o) b (given k))
-      (record_core_with_lem (lent_to c m s) (length o) b k ∙ ap (λ (i : ℕ). cond (eqb i 0) (record_core by_list (lent_to c m s) (length o) b) (refuses i)) (sym e)) h
+  -- of the two cores, by the number that contents refuse by
+  either : (plain : Answer Work) (with : Answer Work) (i : ℕ) → with ≡ cond (eqb i 0) plain (refuses i) → (i ≡ 0 → outcome L o with ≡ outcome L o plain) × ((i ≡ 0 → ⊥) → outcome L o with ≡ outcome L o (refuses i))
+  either plain with i e = (λ z. ap (outcome L o) (rw (eq-eqb i 0 z) at e), λ z. ap (outcome L o) (rw (ne_eqb i 0 z) at e))
 
-  pub propose_with_is : (n k : List ℕ) → due ≡ propose_refusal (lent c m s) (length o) n k → x ≡ cond goes (replied_by (propose_call by_list (lent_to c' m s) o n)) (replied_by (outcome (lent_to c' m s) o (refuses due)))
-      → x ≡ replied_by (propose_call_with by_list (lent_to c m s) o n (given k))
-  unfolding propose_call propose_call_with
-  propose_with_is n k e h =
-      either (λ R. propose_core by_list R (length o) n) (λ R. propose_core_with by_list R (length o) n (given k))
-      (propose_core_with_lem (lent_to c m s) (length o) n k ∙ ap (λ (i : ℕ). cond (eqb i 0) (propose_core by_list (lent_to c m s) (length o) n) (refuses i)) (sym e)) h
+  module _ (b k : List ℕ) {A : Type 0} (p : Result A Refusal) (due : refused p ≡ record_due (lent c m s) (length o) b k) where
+    record_either : record_core_with by_list L (length o) b (given k) ≡ cond (eqb (refused p) 0) (record_core by_list L (length o) b) (refuses (refused p))
+    record_either = record_core_with_lem L (length o) b k ∙ ap (λ (i : ℕ). cond (eqb i 0) (record_core by_list L (length o) b) (refuses i)) (sym due)
+
+    pub record_with_err : {q : Result ℕ Refusal} {r t : Refusal} → p ≡ Err r → q ≡ Err t → t ≡ r → replied (reply_of (answer q)) c m s o ≡ replied_by (record_call_with by_list L o b (given k))
+    unfolding record_call_with
+    record_with_err e f g = stays c m o s _ _ _ ((either _ _ _ record_either).1 (refused_some e)) (reply_err e f g)
+
+    pub record_with_ok : {x : A} {y : Replied} → p ≡ Ok x → y ≡ replied_by (record_call by_list L o b) → y ≡ replied_by (record_call_with by_list L o b (given k))
+    unfolding record_call record_call_with
+    record_with_ok e h = h ∙ ap replied_by (sym ((either _ _ _ record_either).0 (refused_none e)))
+
+  module _ (n k : List ℕ) {A : Type 0} (p : Result A Refusal) (due : refused p ≡ propose_refusal (lent c m s) (length o) n k) where
+    propose_either : propose_core_with by_list L (length o) n (given k) ≡ cond (eqb (refused p) 0) (propose_core by_list L (length o) n) (refuses (refused p))
+    propose_either = propose_core_with_lem L (length o) n k ∙ ap (λ (i : ℕ). cond (eqb i 0) (propose_core by_list L (length o) n) (refuses i)) (sym due)
+
+    pub propose_with_err : {q : Result ℕ Refusal} {r t : Refusal} → p ≡ Err r → q ≡ Err t → t ≡ r → replied (reply_of (answer q)) c m s o ≡ replied_by (propose_call_with by_list L o n (given k))
+    unfolding propose_call_with
+    propose_with_err e f g = stays c m o s _ _ _ ((either _ _ _ propose_either).1 (refused_some e)) (reply_err e f g)
+
+    pub propose_with_ok : {x : A} {y : Replied} → p ≡ Ok x → y ≡ replied_by (propose_call by_list L o n) → y ≡ replied_by (propose_call_with by_list L o n (given k))
+    unfolding propose_call propose_call_with
+    propose_with_ok e h = h ∙ ap replied_by (sym ((either _ _ _ propose_either).0 (refused_none e)))
 
 -- what a propose looks up is what it asks
-pub propose_refusal_is : (c : Counters) (m : List ℕ) (s : List Block) (room : ℕ) (n k : List ℕ) (w : Want) (found under : Found) {due : ℕ} → w ≡ propose_want_with (lent c m s) room n k
+pub propose_refusal_is : (c : Counters) (m : List ℕ) (s : List Block) (room : ℕ) (n k : List ℕ) (w : Wanted) (found under : Found) {due : ℕ} → w ≡ propose_want_with (lent c m s) room n k
     → found ≡ looked_up (lent c m s) w w.name → under ≡ looked_up (lent c m s) w w.base → due ≡ propose_due n w found under k → due ≡ propose_refusal (lent c m s) room n k
 unfolding propose_refusal
 propose_refusal_is c m s room n k w found under wanted f u e =
     let W = lent c m s in
-    e ∙ ap (λ (y : Found). propose_due n w y under k) f ∙ ap (λ (y : Found). propose_due n w (looked_up W w w.name) y k) u ∙ ap (λ (v : Want). propose_due n v (looked_up W v v.name) (looked_up W v v.base) k) wanted
+    e ∙ ap (λ (y : Found). propose_due n w y under k) f ∙ ap (λ (y : Found). propose_due n w (looked_up W w w.name) y k) u ∙ ap (λ (v : Wanted). propose_due n v (looked_up W v v.name) (looked_up W v v.base) k) wanted
 
--- a call that is refused leaves everything as it was
-pub call_unmade : (c : Counters) (m o : List ℕ) (s : List Block) (y : Outcome) (goes : Bool) (due : ℕ) (r : Reply) → goes ≡ false → r ≡ reply_of (refuses due)
-    → replied r c m s o ≡ cond goes (replied_by y) (replied_by (outcome (lent_to c m s) o (refuses due)))
-unfolding outcome
-call_unmade c m o s y goes due r t e = rw (t, e)
+-- where nothing is to be looked up, its contents refuse it for their length alone
+nothing_due : (n k : List ℕ) (r : Refusal) (x y : Found) → cond (eqb (number r) 16) 16 0 ≡ propose_due n (nothing (number r)) x y k
+unfolding propose_due
+nothing_due n k r x y = rw (ne_eqb (number r) 0 (some_number r))
+
+pub propose_unwanted_is : (c : Counters) (m : List ℕ) (s : List Block) (room : ℕ) (n k : List ℕ) (r : Refusal) {p : Result Want Refusal} {due : ℕ} → wanted p ≡ propose_want_with (lent c m s) room n k → p ≡ Err r
+    → due ≡ cond (eqb (number r) 16) 16 0 → due ≡ propose_refusal (lent c m s) room n k
+unfolding propose_refusal wanted
+propose_unwanted_is c m s room n k r {p} {due} h e d =
+    let W = lent c m s in
+    let none : due ≡ propose_due n (nothing (number r)) (looked_up W (nothing (number r)) zero_name) (looked_up W (nothing (number r)) zero_name) k = d ∙ nothing_due n k r _ _ in
+    none ∙ ap (λ (v : Wanted). propose_due n v (looked_up W v v.name) (looked_up W v v.base) k) (rw e at h)

@@ -1,5 +1,5 @@
 -- Openings: refused settings, a refused list, refused lengths, and an opening that is accepted. Assumes nothing.
-use Prim.Native.Nat.{ℕ, zero, suc, ◌≤◌, ◌<◌, ◌^◌}
+use Prim.Native.Nat.{ℕ, ◌≤◌, ◌<◌, ◌^◌}
 use native.Mathlib.Omega.{arith}
 use mathlib.Core.Path.{◌≡◌, refl, sym, ap, ◌∙◌}
 use mathlib.Core.Bool.{Bool, true, false, not, cond}
@@ -18,10 +18,10 @@ use Rattle.blocks.specs.declared.Block.{Block}
 use Rattle.protocol.specs.Work.{Work}
 use Rattle.protocol.specs.Refusals.{store_length}
 use Rattle.protocol.specs.Calls.{Replica, Outcome, outcome, opened_memory, length_rules, ◌then◌, opening_core, opening_call}
-use Rattle.refusals.specs.Number.{answer_of}
-use Rattle.replica.specs.declared.Opened.{Opened}
-use Rattle.replica.specs.declared.Reply.{Reply}
-use Rattle.replica.specs.Reply.{reply_of, lent_to, replied, replied_by}
+use Rattle.std.specs.Prelude.{Result, Ok, Err}
+use Rattle.settings.specs.declared.refusal.Refusal.{Refusal}
+use Rattle.settings.specs.Refusal.{answer}
+use Rattle.replica.specs.Reply.{reply_of, replied, replied_by}
 use Rattle.replica.specs.Openings.{opened_outcome, admitted}
 
 -- ---- the list and the lengths
@@ -87,10 +87,10 @@ module _ (R : Replica) (f c k n own : ℕ) (leaders : List ℕ) where
       ap (outcome R []) x.0
       ∙ ap (λ (t : Settings). outcome R [] (judge more (record { counters = opened; memory = opened_memory R.memory t own leaders; store = R.store; out = [] }))) (sym x.1)
 
-  pub opening_refused : opening f c k n own ≡ refuses 1
-      → opening_call R f c k n own leaders ≡ record { reply = refuses 1; counters = R.counters; memory = R.memory; store = R.store; output = [] }
+  pub opening_refused : (refusal : ℕ) → opening f c k n own ≡ refuses refusal
+      → opening_call R f c k n own leaders ≡ record { reply = refuses refusal; counters = R.counters; memory = R.memory; store = R.store; output = [] }
   unfolding opening opening_call opening_core outcome
-  opening_refused e = ap (outcome R []) (judge_refused work s₀ (opening_rules s₀ n own) more 1 e)
+  opening_refused refusal e = ap (outcome R []) (judge_refused work s₀ (opening_rules s₀ n own) more refusal e)
 
 -- own number is small
 pub own_small : (f c k n own : ℕ) (s : Settings) → opening f c k n own ≡ accepts s → own < 2 ^ 16
@@ -106,13 +106,12 @@ own_small f c k n own s e =
     by true false true p q g = absurd (let z : ◌≡◌ {A = ℕ} 0 1 = cc in omega arith)
     by true false false p q g = omega (arith, ltb-false largest n p, leb-false n own q)
 
--- the call, from what its steps leave
--- an opening writes no bytes: whatever its number is, it is replied as a refusal's
-no_bytes : (k : ℕ) → reply_of (refuses k) ≡ reply_of (answer_of k 0)
-unfolding reply_of answer_of
-no_bytes zero = refl
-no_bytes (suc k) = refl
+-- ---- the call, from what its steps leave
+module _ (c : Counters) (m : List ℕ) (l : List Block) (y : Outcome) {p : Result Counters Refusal} (x : opened_outcome c p m l ≡ y) where
+  pub opening_err : {q : Result ℕ Refusal} {r t : Refusal} → p ≡ Err r → q ≡ Err t → t ≡ r → replied (reply_of (answer q)) c m l [] ≡ replied_by y
+  unfolding answer
+  opening_err e f g = rw (f, g) (ap replied_by (rw e at x))
 
-pub opening_is : (c : Counters) (m : List ℕ) (l : List Block) (f b k n own : ℕ) (leaders : List ℕ) (e : Opened) (m' : List ℕ) → opened_outcome e m' l ≡ opening_call (lent_to c m l) f b k n own leaders
-    → (r : Reply) → r ≡ reply_of (refuses e.refusal) → replied r e.counters m' l [] ≡ replied_by (opening_call (lent_to c m l) f b k n own leaders)
-opening_is c m l f b k n own leaders e m' x r said = rw (said ∙ no_bytes e.refusal) (ap replied_by x)
+  pub opening_ok : {new : Counters} → p ≡ Ok new → replied (reply_of (answer (Ok 0))) new m l [] ≡ replied_by y
+  unfolding answer
+  opening_ok e = ap replied_by (rw e at x)

@@ -1,5 +1,5 @@
 -- What a reply means, and how what is lent stands for a replica of protocol. Assumes nothing.
-use Rattle.std.specs.Prelude.{ℕ, ◌*◌, ◌≤◌, List, length, take, set}
+use Rattle.std.specs.Prelude.{ℕ, ◌*◌, ◌≤◌, List, length, take}
 use Rattle.settings.specs.Answer.{Answer, accepts, refuses}
 use Rattle.wire.specs.Fields.{release_length}
 use Rattle.blocks.specs.declared.Block.{Block}
@@ -8,6 +8,7 @@ use Rattle.counters.specs.declared.Counters.{Counters}
 use Rattle.protocol.specs.Refusals.{store_length}
 use Rattle.protocol.specs.Calls.{Replica, Outcome}
 use Rattle.act.specs.Draft.{Ready}
+use Rattle.event.specs.Event.{filled}
 use Rattle.perform.specs.declared.Done.{Done}
 use Rattle.replica.specs.declared.Reply.{Reply}
 
@@ -39,4 +40,4 @@ replied_by x = replied (reply_of x.reply) x.counters x.memory x.store x.output
 pub record Concludes (e : Done) (m o : List ℕ) (s : List Block) : Type 0 where
   pub few : e.turns ≤ store_length
   pub within : e.draft.at ≤ length o
-  pub ready : 1 ≤ e.turns → Ready e.draft m o (release_length * length (take (block_count_of m) (set s e.place e.block)))
+  pub ready : 1 ≤ e.turns → Ready e.draft m o (release_length * length (take (block_count_of m) (filled s e.placed)))

@@ -7,17 +7,20 @@
 // `replica_c` exports them by these names, hence the prefix: a library that exports `open` would take the place of the C library's.
 #![tactic(auto)]
 
-ghost use Rattle.std.specs.Prelude.{◌≡◌, cond, List, [], eqb, length, set};
-ghost use Rattle.settings.specs.Answer.{accepts, refuses};
+ghost use Rattle.std.specs.Prelude.{◌≡◌, List, [], length, take};
+ghost use Rattle.settings.specs.Answer.{accepts};
+ghost use Rattle.settings.specs.Refusal.{refused, answer};
 ghost use Rattle.memory.specs.Leaders.{by_list};
 ghost use Rattle.protocol.specs.Rules.{again};
 ghost use Rattle.protocol.specs.Contents.{given};
-ghost use Rattle.protocol.specs.Calls.{outcome, record_call, timer_call, propose_call, opening_call, record_call_with, propose_call_with};
+ghost use Rattle.protocol.specs.Calls.{record_call, timer_call, propose_call, opening_call, record_call_with, propose_call_with};
 ghost use Rattle.refusals.specs.Early.{lent};
-ghost use Rattle.judge.specs.Contents.{record_due, propose_refusal};
+ghost use Rattle.judge.specs.Contents.{propose_refusal};
 ghost use Rattle.act.specs.Draft.{work_of, left, left_by};
 ghost use Rattle.blocks.specs.declared.Block.{Block};
-ghost use Rattle.event.specs.Event.{Asked, Proposable};
+ghost use Rattle.blocks.specs.Store.{found_of, held};
+ghost use Rattle.counters.specs.declared.Counters.{Counters};
+ghost use Rattle.event.specs.Event.{Asked, Proposable, filled};
 ghost use Rattle.perform.specs.Perform.{Judges, Accepted, timer_number, propose_number, record_number};
 ghost use Rattle.decisive.specs.Decisive.{decisive_call};
 ghost use Rattle.decisive.specs.Reply.{reply_of as decisive_reply};
@@ -25,16 +28,17 @@ ghost use Rattle.digest.specs.Name.{name_call, reply_of as name_reply};
 ghost use Rattle.replica.specs.Openings.{opened_outcome, admitted};
 ghost use Rattle.replica.specs.Reply.{Concludes, reply_of, lent_to, replied, replied_by};
 
-use act::Draft;
 use blocks::{Block, STORE_LENGTH, fill, held};
 use counters::{Counters, opened};
 use decisive::{Decisive, whose};
 use digest::Named;
+use event::Placed;
 use event::host::open_memory;
-use judge::contents::{propose_due, propose_want, record_due};
-use perform::{Done, Judged, late_propose, late_record};
+use judge::Want;
+use judge::contents::{length_refusal, propose_due, propose_want, record_due};
+use perform::{Done, late_propose, late_record};
 use release::release_all;
-use settings::{Admission, Height, Settings, View, admit, bad_leaders};
+use settings::{Height, Refusal, Settings, View, admit, bad_leaders};
 
 // 01's number of the refusal and no bytes; or 0, and the number of bytes written.
 #[repr(C)]
@@ -51,62 +55,78 @@ pub struct Name {
     pub bytes: [u8; 32],
 }
 
-// The reply of a call that writes no bytes: one that is refused, and any opening.
-fn numbered(number: u64) -> Reply
-    ensures { result ≡ reply_of (refuses number) }
-{
-    Reply {
-        refusal: number,
-        written: 0,
+// What a call answers C: the number of bytes that an accepted one has written, or the number of the refusal.
+impl From<Result<usize, Refusal>> for Reply {
+    ghost from_gives = { λ a r. r ≡ reply_of (answer a) };
+
+    fn from(answer: Result<usize, Refusal>) -> Reply {
+        match answer {
+            Ok(written) => Reply {
+                refusal: 0,
+                written,
+            },
+            Err(refusal) => Reply {
+                refusal: refusal.into(),
+                written: 0,
+            },
+        }
     }
 }
 
-// The reply of a call that was accepted.
-fn accepted(written: usize) -> Reply
-    ensures { result ≡ reply_of (accepts written) }
+// The new block is filled in, where there is one.
+fn fill_in(store: &mut [Block], placed: Option<Placed>)
+    ensures { store.new ≡ filled store.old placed }
 {
-    Reply {
-        refusal: 0,
-        written,
+    if let Some(new) = placed {
+        fill(store, new.place, new.block);
     }
 }
 
-// A number that refuses nothing.
-fn passes(number: u64) -> bool
-    ensures { result ≡ eqb number 0 }
-{
-    number == 0
-}
-
-// The block is filled in, and rule D is run.
-fn conclude(mem: &mut [u8], store: &mut [Block], out: &mut [u8], done: Done) -> Draft
-    requires { Concludes done mem.old out.old store.old }
-    ensures { left result mem.new out.new store.new
-        ≡ left_by (again done.turns (work_of done.draft mem.old out.old (set store.old done.place done.block))) out.old }
-{
-    fill(store, done.place, done.block);
-    release_all(mem, store, out, done.draft, done.turns)
-}
-
-// A record's judgement; nothing is written.
-fn record_judged(
+// The new block is filled in, rule D is run, and the counters are stored: the number of bytes written.
+fn conclude(
     counters: &mut Counters,
+    mem: &mut [u8],
+    store: &mut [Block],
+    out: &mut [u8],
+    done: Done,
+) -> usize
+    requires { Concludes done mem.old out.old store.old }
+    ensures { left (record { counters = counters.new; at = result }) mem.new out.new store.new
+        ≡ left_by (again done.turns (work_of done.draft mem.old out.old (filled store.old done.placed))) out.old }
+{
+    fill_in(store, done.placed);
+    let last = release_all(mem, store, out, done.draft, done.turns);
+    *counters = last.counters;
+    last.at
+}
+
+// The two blocks that a judgement asks for, where the tip or an entry is one.
+fn wanted_blocks(store: &[Block], tip: Block, want: Want) -> (Option<Block>, Option<Block>)
+    ensures found { found_of result.0 ≡ held tip (take want.count store.now) want.name }
+    ensures under { found_of result.1 ≡ held tip (take want.count store.now) want.base }
+{
+    (
+        held(store, want.count, tip, want.name),
+        held(store, want.count, tip, want.base),
+    )
+}
+
+// A record's judgement: its refusal, or whether its block is held already; nothing is written.
+fn record_judged(
+    counters: Counters,
     mem: &[u8],
     store: &[Block],
     room: usize,
     rec: &[u8],
-) -> Judged
-    ensures { (counters.new ≡ counters.old)
-        × Judges (record_number room rec.now) (Asked rec.now result.held) result.accepted result.refusal (lent counters.old mem.now store.now) }
+) -> Result<bool, Refusal>
+    ensures { Judges (record_number room rec.now) (Asked rec.now) result (lent counters mem.now store.now) }
 {
-    let c = *counters;
-    let want = judge::record(c, mem, store.len(), room, rec);
-    let found = held(store, want.count, c.tip, want.name);
-    let under = held(store, want.count, c.tip, want.base);
+    let want = judge::record(counters, mem, store.len(), room, rec)?;
+    let (found, under) = wanted_blocks(store, counters.tip, want);
     late_record(rec, want, found, under)
 }
 
-// A record that is accepted, and whether its block is held already.
+// A record that is accepted, and whether its block is held already: the number of bytes written.
 fn record_taken(
     counters: &mut Counters,
     mem: &mut [u8],
@@ -114,36 +134,28 @@ fn record_taken(
     out: &mut [u8],
     rec: &[u8],
     held: bool,
-) -> Reply
+) -> usize
     requires { Accepted (record_number (length out.old) rec.now) (Asked rec.now held) (lent counters.old mem.old store.old) }
-    ensures { replied result counters.new mem.new store.new out.new
+    ensures { replied (reply_of (accepts result)) counters.new mem.new store.new out.new
         ≡ replied_by (record_call by_list (lent_to counters.old mem.old store.old) out.old rec.now) }
 {
-    let c = *counters;
-    let done = perform::record(c, mem, out, rec, held);
-    let d = conclude(mem, store, out, done);
-    *counters = d.counters;
-    accepted(d.at)
+    let done = perform::record(*counters, mem, out, rec, held);
+    conclude(counters, mem, store, out, done)
 }
 
-// A record that was judged is taken or refused.
+// A record is judged, and taken or refused.
 fn record_answered(
     counters: &mut Counters,
     mem: &mut [u8],
     store: &mut [Block],
     out: &mut [u8],
     rec: &[u8],
-    judged: Judged,
-) -> Reply
-    requires { Judges (record_number (length out.old) rec.now) (Asked rec.now judged.held) judged.accepted judged.refusal (lent counters.old mem.old store.old) }
-    ensures { replied result counters.new mem.new store.new out.new
+) -> Result<usize, Refusal>
+    ensures { replied (reply_of (answer result)) counters.new mem.new store.new out.new
         ≡ replied_by (record_call by_list (lent_to counters.old mem.old store.old) out.old rec.now) }
 {
-    if judged.accepted {
-        record_taken(counters, mem, store, out, rec, judged.held)
-    } else {
-        numbered(judged.refusal)
-    }
+    let held = record_judged(*counters, mem, store, out.len(), rec)?;
+    Ok(record_taken(counters, mem, store, out, rec, held))
 }
 
 // A record of any bytes.
@@ -157,45 +169,23 @@ pub fn hydrangea_record(
     ensures { replied result counters.new mem.new store.new out.new
         ≡ replied_by (record_call by_list (lent_to counters.old mem.old store.old) out.old rec.now) }
 {
-    let judged = record_judged(counters, mem, store, out.len(), rec);
-    record_answered(counters, mem, store, out, rec, judged)
+    record_answered(counters, mem, store, out, rec).into()
 }
 
-// What contents refuse a record by, or 0; nothing is written.
-fn record_refusal(
-    counters: &mut Counters,
-    mem: &[u8],
-    entries: usize,
-    room: usize,
-    rec: &[u8],
-    contents: &[u8],
-) -> u64
-    ensures { (counters.new ≡ counters.old)
-        × ((s : List Block) → length s ≡ entries → result ≡ record_due (lent counters.old mem.now s) room rec.now contents.now) }
-{
-    let c = *counters;
-    record_due(c, mem, entries, room, rec, contents)
-}
-
-// The record, or what it is refused by.
-fn record_or(
+// The record, where its contents don't refuse it.
+fn record_answered_with(
     counters: &mut Counters,
     mem: &mut [u8],
     store: &mut [Block],
     out: &mut [u8],
     rec: &[u8],
-    goes: bool,
-    due: u64,
-) -> Reply
-    ensures { replied result counters.new mem.new store.new out.new
-        ≡ cond goes (replied_by (record_call by_list (lent_to counters.old mem.old store.old) out.old rec.now))
-        (replied_by (outcome (lent_to counters.old mem.old store.old) out.old (refuses due))) }
+    contents: &[u8],
+) -> Result<usize, Refusal>
+    ensures { replied (reply_of (answer result)) counters.new mem.new store.new out.new
+        ≡ replied_by (record_call_with by_list (lent_to counters.old mem.old store.old) out.old rec.now (given contents.now)) }
 {
-    if goes {
-        hydrangea_record(counters, mem, store, out, rec)
-    } else {
-        numbered(due)
-    }
+    record_due(*counters, mem, store.len(), out.len(), rec, contents)?;
+    record_answered(counters, mem, store, out, rec)
 }
 
 // A record of any bytes that comes with contents of any bytes (02, 2.5): where these don't refuse it, it is the record without them.
@@ -210,65 +200,38 @@ pub fn hydrangea_record_with(
     ensures { replied result counters.new mem.new store.new out.new
         ≡ replied_by (record_call_with by_list (lent_to counters.old mem.old store.old) out.old rec.now (given contents.now)) }
 {
-    let due = record_refusal(counters, mem, store.len(), out.len(), rec, contents);
-    let goes = passes(due);
-    record_or(counters, mem, store, out, rec, goes, due)
+    record_answered_with(counters, mem, store, out, rec, contents).into()
 }
 
-// A host hands a view over as its number.
-fn view_of(number: u64) -> View
-    ensures { result.0 ≡ number }
-{
-    View(number)
-}
-
-// A timer's judgement; nothing is written.
-fn timer_judged(counters: &mut Counters, mem: &[u8], entries: usize, room: usize, view: View) -> u64
-    ensures { (counters.new ≡ counters.old)
-        × ((s : List Block) → length s ≡ entries → result ≡ timer_number room view.0 (lent counters.old mem.now s)) }
-{
-    let c = *counters;
-    judge::timer(c, mem, entries, room, view)
-}
-
-// A timer that is accepted.
+// A timer that is accepted: the number of bytes written.
 fn timer_taken(
     counters: &mut Counters,
     mem: &mut [u8],
     store: &mut [Block],
     out: &mut [u8],
     view: View,
-) -> Reply
+) -> usize
     requires { timer_number (length out.old) view.0 (lent counters.old mem.old store.old) ≡ 0 }
-    ensures { replied result counters.new mem.new store.new out.new
+    ensures { replied (reply_of (accepts result)) counters.new mem.new store.new out.new
         ≡ replied_by (timer_call (lent_to counters.old mem.old store.old) out.old view.0) }
 {
-    let c = *counters;
-    let done = perform::timer(c, mem, out, view);
-    let d = conclude(mem, store, out, done);
-    *counters = d.counters;
-    accepted(d.at)
+    let done = perform::timer(*counters, mem, out, view);
+    conclude(counters, mem, store, out, done)
 }
 
-// A timer of which the number is known is taken or refused.
+// A timer is judged, and taken or refused.
 fn timer_answered(
     counters: &mut Counters,
     mem: &mut [u8],
     store: &mut [Block],
     out: &mut [u8],
     view: View,
-    goes: bool,
-    number: u64,
-) -> Reply
-    requires { (goes ≡ eqb number 0) × (number ≡ timer_number (length out.old) view.0 (lent counters.old mem.old store.old)) }
-    ensures { replied result counters.new mem.new store.new out.new
+) -> Result<usize, Refusal>
+    ensures { replied (reply_of (answer result)) counters.new mem.new store.new out.new
         ≡ replied_by (timer_call (lent_to counters.old mem.old store.old) out.old view.0) }
 {
-    if goes {
-        timer_taken(counters, mem, store, out, view)
-    } else {
-        numbered(number)
-    }
+    judge::timer(*counters, mem, store.len(), out.len(), view)?;
+    Ok(timer_taken(counters, mem, store, out, view))
 }
 
 // The timer of a view.
@@ -282,31 +245,25 @@ pub fn hydrangea_timer(
     ensures { replied result counters.new mem.new store.new out.new
         ≡ replied_by (timer_call (lent_to counters.old mem.old store.old) out.old view) }
 {
-    let expired = view_of(view);
-    let number = timer_judged(counters, mem, store.len(), out.len(), expired);
-    let goes = passes(number);
-    timer_answered(counters, mem, store, out, expired, goes, number)
+    timer_answered(counters, mem, store, out, View(view)).into()
 }
 
-// A propose's judgement; nothing is written.
+// A propose's judgement: its refusal, or the height of the block below; nothing is written.
 fn propose_judged(
-    counters: &mut Counters,
+    counters: Counters,
     mem: &[u8],
     store: &[Block],
     room: usize,
     name: Name,
-) -> Judged
-    ensures { (counters.new ≡ counters.old)
-        × Judges (propose_number room name.bytes) (Proposable name.bytes result.below.0) result.accepted result.refusal (lent counters.old mem.now store.now) }
+) -> Result<Height, Refusal>
+    ensures { Judges (propose_number room name.bytes) (λ below. Proposable name.bytes below.0) result (lent counters mem.now store.now) }
 {
-    let c = *counters;
-    let want = judge::propose(c, mem, store.len(), room, name.bytes);
-    let found = held(store, want.count, c.tip, want.name);
-    let under = held(store, want.count, c.tip, want.base);
+    let want = judge::propose(counters, mem, store.len(), room, name.bytes)?;
+    let (found, under) = wanted_blocks(store, counters.tip, want);
     late_propose(want, found, under)
 }
 
-// A propose that is accepted, and the height of the block below.
+// A propose that is accepted, and the height of the block below: the number of bytes written.
 fn propose_taken(
     counters: &mut Counters,
     mem: &mut [u8],
@@ -314,36 +271,28 @@ fn propose_taken(
     out: &mut [u8],
     name: Name,
     below: Height,
-) -> Reply
+) -> usize
     requires { Accepted (propose_number (length out.old) name.bytes) (Proposable name.bytes below.0) (lent counters.old mem.old store.old) }
-    ensures { replied result counters.new mem.new store.new out.new
+    ensures { replied (reply_of (accepts result)) counters.new mem.new store.new out.new
         ≡ replied_by (propose_call by_list (lent_to counters.old mem.old store.old) out.old name.bytes) }
 {
-    let c = *counters;
-    let done = perform::propose(c, mem, out, name.bytes, below);
-    let d = conclude(mem, store, out, done);
-    *counters = d.counters;
-    accepted(d.at)
+    let done = perform::propose(*counters, mem, out, name.bytes, below);
+    conclude(counters, mem, store, out, done)
 }
 
-// A propose that was judged is taken or refused.
+// A propose is judged, and taken or refused.
 fn propose_answered(
     counters: &mut Counters,
     mem: &mut [u8],
     store: &mut [Block],
     out: &mut [u8],
     name: Name,
-    judged: Judged,
-) -> Reply
-    requires { Judges (propose_number (length out.old) name.bytes) (Proposable name.bytes judged.below.0) judged.accepted judged.refusal (lent counters.old mem.old store.old) }
-    ensures { replied result counters.new mem.new store.new out.new
+) -> Result<usize, Refusal>
+    ensures { replied (reply_of (answer result)) counters.new mem.new store.new out.new
         ≡ replied_by (propose_call by_list (lent_to counters.old mem.old store.old) out.old name.bytes) }
 {
-    if judged.accepted {
-        propose_taken(counters, mem, store, out, name, judged.below)
-    } else {
-        numbered(judged.refusal)
-    }
+    let below = propose_judged(*counters, mem, store, out.len(), name)?;
+    Ok(propose_taken(counters, mem, store, out, name, below))
 }
 
 // A block of a name is proposed.
@@ -357,48 +306,43 @@ pub fn hydrangea_propose(
     ensures { replied result counters.new mem.new store.new out.new
         ≡ replied_by (propose_call by_list (lent_to counters.old mem.old store.old) out.old name.bytes) }
 {
-    let judged = propose_judged(counters, mem, store, out.len(), name);
-    propose_answered(counters, mem, store, out, name, judged)
+    propose_answered(counters, mem, store, out, name).into()
 }
 
-// What contents refuse a propose by, or 0; nothing is written.
+// What contents refuse a propose by; nothing is written.
 fn propose_refusal(
-    counters: &mut Counters,
+    counters: Counters,
     mem: &[u8],
     store: &[Block],
     room: usize,
     name: Name,
     contents: &[u8],
-) -> u64
-    ensures { (counters.new ≡ counters.old)
-        × (result ≡ propose_refusal (lent counters.old mem.now store.now) room name.bytes contents.now) }
+) -> Result<(), Refusal>
+    ensures { refused result ≡ propose_refusal (lent counters mem.now store.now) room name.bytes contents.now }
 {
-    let c = *counters;
-    let want = propose_want(c, mem, store.len(), room, name.bytes, contents);
-    let found = held(store, want.count, c.tip, want.name);
-    let under = held(store, want.count, c.tip, want.base);
-    propose_due(name.bytes, want, found, under, contents)
+    match propose_want(counters, mem, store.len(), room, name.bytes, contents) {
+        Ok(want) => {
+            let (found, under) = wanted_blocks(store, counters.tip, want);
+            propose_due(name.bytes, want, found, under, contents)
+        }
+        Err(refusal) => length_refusal(refusal),
+    }
 }
 
-// The proposal, or what it is refused by.
-fn propose_or(
+// The proposal, where its contents don't refuse it.
+fn propose_answered_with(
     counters: &mut Counters,
     mem: &mut [u8],
     store: &mut [Block],
     out: &mut [u8],
     name: Name,
-    goes: bool,
-    due: u64,
-) -> Reply
-    ensures { replied result counters.new mem.new store.new out.new
-        ≡ cond goes (replied_by (propose_call by_list (lent_to counters.old mem.old store.old) out.old name.bytes))
-        (replied_by (outcome (lent_to counters.old mem.old store.old) out.old (refuses due))) }
+    contents: &[u8],
+) -> Result<usize, Refusal>
+    ensures { replied (reply_of (answer result)) counters.new mem.new store.new out.new
+        ≡ replied_by (propose_call_with by_list (lent_to counters.old mem.old store.old) out.old name.bytes (given contents.now)) }
 {
-    if goes {
-        hydrangea_propose(counters, mem, store, out, name)
-    } else {
-        numbered(due)
-    }
+    propose_refusal(*counters, mem, store, out.len(), name, contents)?;
+    propose_answered(counters, mem, store, out, name)
 }
 
 // A block of a name and of contents is proposed, in the same way.
@@ -413,56 +357,35 @@ pub fn hydrangea_propose_with(
     ensures { replied result counters.new mem.new store.new out.new
         ≡ replied_by (propose_call_with by_list (lent_to counters.old mem.old store.old) out.old name.bytes (given contents.now)) }
 {
-    let due = propose_refusal(counters, mem, store, out.len(), name, contents);
-    let goes = passes(due);
-    propose_or(counters, mem, store, out, name, goes, due)
-}
-
-// 01's number of the refusal, or 0, and the counters.
-#[derive(Clone, Copy)]
-struct Opened {
-    refusal: u64,
-    counters: Counters,
-}
-
-// A refused opening leaves the counters.
-fn not_opened(refusal: u64, counters: Counters) -> Opened
-    ensures { result ≡ record { refusal = refusal; counters = counters } }
-{
-    Opened { refusal, counters }
+    propose_answered_with(counters, mem, store, out, name, contents).into()
 }
 
 // Of settings that were admitted the leader list and the lengths of memory and store are left to judge.
 fn open_admitted(
-    c: Counters,
     mem: &mut [u8],
     entries: usize,
     s: Settings,
     n: u64,
     own: u16,
     leaders: &[u8],
-) -> Opened
-    ensures { (l : List Block) → length l ≡ entries → opened_outcome result mem.new l ≡ admitted (lent_to c mem.old l) s n own leaders.now }
+) -> Result<Counters, Refusal>
+    ensures { (old : Counters) (l : List Block) → length l ≡ entries → opened_outcome old result mem.new l ≡ admitted (lent_to old mem.old l) s n own leaders.now }
 {
     if bad_leaders(n, leaders) {
-        return not_opened(1, c);
+        return Err(Refusal::Settings);
     }
     if mem.len() < memory::LENGTH {
-        return not_opened(2, c);
+        return Err(Refusal::Regions);
     }
     if entries < STORE_LENGTH {
-        return not_opened(2, c);
+        return Err(Refusal::Regions);
     }
     open_memory(mem, s, own, leaders);
-    Opened {
-        refusal: 0,
-        counters: opened(),
-    }
+    Ok(opened())
 }
 
-// An opening, but for the store, which it leaves as it is.
+// An opening, but for the counters and the store: the counters that it leaves, or its refusal.
 fn opening(
-    counters: Counters,
     mem: &mut [u8],
     entries: usize,
     f: u64,
@@ -471,14 +394,31 @@ fn opening(
     n: u64,
     own: u64,
     leaders: &[u8],
-) -> Opened
-    ensures { (l : List Block) → length l ≡ entries → opened_outcome result mem.new l ≡ opening_call (lent_to counters mem.old l) f c k n own leaders.now }
+) -> Result<Counters, Refusal>
+    ensures { (old : Counters) (l : List Block) → length l ≡ entries → opened_outcome old result mem.new l ≡ opening_call (lent_to old mem.old l) f c k n own leaders.now }
 {
-    let admission = admit(f, c, k, n, own);
-    match admission {
-        Admission::Admitted(s) => open_admitted(counters, mem, entries, s, n, own as u16, leaders),
-        Admission::Refused => not_opened(1, counters),
-    }
+    let s = admit(f, c, k, n, own)?;
+    open_admitted(mem, entries, s, n, own as u16, leaders)
+}
+
+// An opening writes no bytes.
+fn open_answered(
+    counters: &mut Counters,
+    mem: &mut [u8],
+    store: &[Block],
+    f: u64,
+    c: u64,
+    k: u64,
+    n: u64,
+    own: u64,
+    leaders: &[u8],
+) -> Result<usize, Refusal>
+    ensures { replied (reply_of (answer result)) counters.new mem.new store.now []
+        ≡ replied_by (opening_call (lent_to counters.old mem.old store.now) f c k n own leaders.now) }
+{
+    let new = opening(mem, store.len(), f, c, k, n, own, leaders)?;
+    *counters = new;
+    Ok(0)
 }
 
 // The opening: settings, n, own number and leader list. The store only has to be long enough.
@@ -496,10 +436,7 @@ pub fn hydrangea_open(
     ensures { replied result counters.new mem.new store.now []
         ≡ replied_by (opening_call (lent_to counters.old mem.old store.now) f c k n own leaders.now) }
 {
-    let old = *counters;
-    let done = opening(old, mem, store.len(), f, c, k, n, own, leaders);
-    *counters = done.counters;
-    numbered(done.refusal)
+    open_answered(counters, mem, store, f, c, k, n, own, leaders).into()
 }
 
 // Whose timeout decided it: settings and n, and a record of any bytes. All that `replica_c` exports stands here.
@@ -513,6 +450,5 @@ pub fn hydrangea_decisive(f: u64, c: u64, k: u64, n: u64, rec: &[u8]) -> Decisiv
 pub fn hydrangea_name(parent: Name, height: u64, contents: &[u8]) -> Named
     ensures { result ≡ name_reply (name_call parent.bytes height contents.now) }
 {
-    let bytes = parent.bytes;
-    digest::name(bytes, height, contents)
+    Named::from(digest::name(parent.bytes, height, contents))
 }

@@ -1,17 +1,22 @@
 -- What was wanted, and what the store holds of it: `perform` judges by these.
-use mathlib.Core.Path.{refl}
+use mathlib.Core.Path.{refl, sym, ◌∙◌}
+use Rattle.std.proofs.lemmas.Result.{err_from_is_err_and}
+use Rattle.wire.specs.Content.{content}
 use Rattle.refusals.specs.Early.{lent}
-use Rattle.perform.proofs.Deciding.{record_shaped, record_judges}
+use Rattle.judge.specs.Want.{record_want}
+use Rattle.judge.specs.Late.{record_late}
+use Rattle.judge.proofs.Wants.{wanted_ok}
+use Rattle.perform.specs.Perform.{record_number}
+use Rattle.perform.proofs.Deciding.{judges_early, record_shaped, record_judges}
 use Rattle.replica.proofs.record_judged.Goals as goal
 
+pub returns-in_err-want : goal.returns-in_err-want
+unfolding record_number
+returns-in_err-want c = let p = err_from_is_err_and c.from_residual.result c.from_residual.ensures.1 in
+    judges_early _ _ (lent c.args.counters c.args.mem.now c.args.store.now) _ (record_late (lent c.args.counters c.args.mem.now c.args.store.now) (record_want (lent c.args.counters c.args.mem.now c.args.store.now) c.args.room c.args.rec.now) (content c.args.rec.now)) refl (c.record.ensures c.args.store.now refl) c.in_err-want.was p.1 p.2
+
 pub late_record-requires : goal.late_record-requires
-late_record-requires c =
-    record_shaped c.args.room c.args.rec.now (lent c.args.counters.now c.args.mem.now c.args.store.now) _ _ _
-    (record { want = c.record-want.ensures c.args.store.now refl; found = c.held-found.ensures; under = c.held-under.ensures })
+late_record-requires c = record_shaped c.args.room c.args.rec.now (lent c.args.counters c.args.mem.now c.args.store.now) _ _ _ (record { want = (sym (wanted_ok _) ∙ (rw c.in_ok-want.was at (c.record.ensures c.args.store.now refl))); found = c.wanted_blocks-found.ensures.found; under = c.wanted_blocks-found.ensures.under }) refl
 
 pub returns : goal.returns
-returns c = (
-  refl,
-  record_judges c.args.room c.args.rec.now (lent c.args.counters.now c.args.mem.now c.args.store.now) _ _ _
-      (record { want = c.record-want.ensures c.args.store.now refl; found = c.held-found.ensures; under = c.held-under.ensures }) _ c.late_record.ensures,
-)
+returns c = record_judges c.args.room c.args.rec.now (lent c.args.counters c.args.mem.now c.args.store.now) _ _ _ (record { want = (sym (wanted_ok _) ∙ (rw c.in_ok-want.was at (c.record.ensures c.args.store.now refl))); found = c.wanted_blocks-found.ensures.found; under = c.wanted_blocks-found.ensures.under }) _ refl c.late_record.ensures.refusal c.late_record.ensures.held
