@@ -8,7 +8,7 @@ use native.Mathlib.Nat.{le_refl}
 use native.Mathlib.Omega.{arith}
 use lib.Dec.{leb}
 use lib.ListN.{length, take, drop, length-append, length-drop}
-use lib.Seq.{take-append-le, drop-append-le, take_all, drop-length}
+use lib.Seq.{length-take-le, take-append-le, drop-append-le, take_all, drop-length}
 use borrow.Author.Tests.{leb-true, ltb-true, le-leb}
 use Rattle.codec.specs.Bytes.{part, le_nat}
 use Rattle.codec.proofs.Order.{and_true}
@@ -79,6 +79,26 @@ module _ (b : List ℕ) where
       by : (t : Bool) → begins_whole b ≡ t → 0 < cond t (length_of b) (length b)
       by true e = let x = begins b e in omega arith
       by false e = h
+
+  -- by the piece
+  pub whole_front : (r : List ℕ) → whole r ≡ front b → (used b ≡ length r) × (header_length ≤ length r)
+  whole_front r e = by (begins_whole b) refl
+    where
+      by : (t : Bool) → begins_whole b ≡ t → (used b ≡ length r) × (header_length ≤ length r)
+      by true t =
+          let x = begins b t in
+          let f : whole r ≡ whole (take (length_of b) b) = e ∙ front-whole t in
+          let same : r ≡ take (length_of b) b = cc in
+          let l : length r ≡ length_of b = ap length same ∙ length-take-le (length_of b) b x.there in
+          (used_whole t ∙ sym l, omega (arith, l, x.least))
+      by false t = let f : whole r ≡ broken = e ∙ front-broken t in cc
+
+  pub broken_front : broken ≡ front b → used b ≡ length b
+  broken_front e = by (begins_whole b) refl
+    where
+      by : (t : Bool) → begins_whole b ≡ t → used b ≡ length b
+      by true t = let f : broken ≡ whole (take (length_of b) b) = e ∙ front-whole t in cc
+      by false t = used_broken t
 
 -- ---- all pieces: more turns than bytes change nothing
 cut_same : (k j : ℕ) (b : List ℕ) → length b ≤ k → length b ≤ j → cut k b ≡ cut j b

@@ -5,6 +5,7 @@ use native.Mathlib.Omega.{arith}
 use mathlib.Core.Path.{◌≡◌, refl, sym, ap, ◌∙◌}
 use mathlib.Core.Bool.{Bool, true, false, not, cond}
 use mathlib.Core.List.{List}
+use Rattle.std.specs.Prelude.{Option, Some, None}
 use borrow.Author.Tests.{lt-ltb, leb-true, leb-false}
 use lib.Dec.{eqb, leb}
 use lib.ListN.{length, drop, set, get_or, drop_of_length-le}
@@ -48,12 +49,13 @@ too_many r f c k n own leaders h = rw (lt-ltb _ _ h) (either (not (eqb n (replic
     either false = refl
 
 -- so an opening with the first n of the numbers is the program's
-pub opens-in_turn : (b b' : List ℕ) → largest ≤ length b → b' ≡ patch b 0 (in_turn largest) → (r : Replica) (o : Opening) → opens_with (part b' 0 o.n) r o ≡ opens r o
+pub opens-in_turn : (b b' : List ℕ) → largest ≤ length b → b' ≡ patch b 0 (in_turn largest) → (r : Replica) (o : Option Opening) → opens_with (part b' 0) r o ≡ opens r o
 unfolding opens_with opening_call
-opens-in_turn b b' long e r o = go (leb o.n largest) refl
+opens-in_turn b b' long e r None = refl
+opens-in_turn b b' long e r (Some o) = go (leb o.n largest) refl
   where
-    go : (t : Bool) → leb o.n largest ≡ t → opens_with (part b' 0 o.n) r o ≡ opens r o
-    go true h = ap (λ (l : List ℕ). opens_with l r o) (ap (λ (m : List ℕ). part m 0 o.n) e ∙ first_put b o.n long (leb-true _ _ h))
+    go : (t : Bool) → leb o.n largest ≡ t → opens_with (part b' 0) r (Some o) ≡ opens r (Some o)
+    go true h = ap (λ (l : List ℕ). opens_with (λ _. l) r (Some o)) (ap (λ (m : List ℕ). part m 0 o.n) e ∙ first_put b o.n long (leb-true _ _ h))
     go false h =
         let more = leb-false _ _ h in
         rw (too_many r o.f o.c o.k o.n o.own (part b' 0 o.n) more, too_many r o.f o.c o.k o.n o.own (in_turn o.n) more)

@@ -1,7 +1,6 @@
 pub mod Laws
 pub mod Cutting
 pub mod Whole
-pub mod Halves
 pub mod Moves
 pub mod Listing
 pub mod InTurn

@@ -6,6 +6,7 @@ use native.Mathlib.Omega.{arith}
 use mathlib.Core.Path.{◌≡◌, refl, ap, ◌∙◌}
 use mathlib.Core.Bool.{Bool, true, false, cond}
 use mathlib.Core.List.{List, [], ◌∷◌, ◌++◌}
+use Rattle.std.specs.Prelude.{Option, Some, None}
 use borrow.Author.Tests.{ne_eqb}
 use lib.Dec.{eqb, lit<, lit≤}
 use lib.ListN.{length, take, drop, get_or}
@@ -28,11 +29,11 @@ use Rattle.protocol.proofs.example.Listing.{listing}
 use Rattle.replay.specs.declared.Opening.{Opening}
 use Rattle.replay.specs.Input.{opening_length, well_formed, opening_of, Piece, whole, begins_whole, front, used, cut, pieces, calls, asks_record, asks}
 use Rattle.replay.specs.Lines.{refused_opening, next_call}
-use Rattle.replay.specs.Replay.{answered, Ran, after_answer, taken, run, opens, opens_with, begun, program}
+use Rattle.replay.specs.Replay.{answered, Ran, taken, run, opens, opens_with, begun, program}
 use Rattle.replay.specs.Listing.{opening_bytes, timer_bytes, propose_bytes, listing_input}
 
 -- ---- the bytes: the first record's numbers, the records after it, and what they ask
-pub listing_opens : opening_of (take opening_length listing_input) ≡ record { well = true; f = 1; c = 1; k = 0; n = 6; own = 1 }
+pub listing_opens : opening_of (take opening_length listing_input) ≡ Some (record { f = 1; c = 1; k = 0; n = 6; own = 1 })
 unfolding listing_input opening_bytes timer_bytes propose_bytes header_bytes le_bytes listed_name opening_of well_formed part le_nat
 listing_opens = refl
 
@@ -132,9 +133,10 @@ run_stopped s [] e = refl
 run_stopped s (p ∷ ps) e = let t : taken s p ≡ s = rw e in rw t (run_stopped s ps e)
 
 -- what an opening that isn't accepted leaves is what was lent
-opens_nothing : (lent : Replica) (x : Opening) → ((opens lent x).answer ≡ 0 → ⊥) → (opens lent x).replica ≡ lent
+opens_nothing : (lent : Replica) (x : Option Opening) → ((opens lent x).answer ≡ 0 → ⊥) → (opens lent x).replica ≡ lent
 unfolding opens_with
-opens_nothing lent x h = go x.well h
+opens_nothing lent None h = refl
+opens_nothing lent (Some x) h = by_reply made_of.reply refl h
   where
     made_of : Outcome
     made_of = opening_call lent x.f x.c x.k x.n x.own (in_turn x.n)
@@ -142,11 +144,6 @@ opens_nothing lent x h = go x.well h
     by_reply : (a : Answer ℕ) → made_of.reply ≡ a → (number made_of.reply ≡ 0 → ⊥) → left made_of ≡ lent
     by_reply (accepts k) e h₁ = absurd (h₁ (ap number e))
     by_reply (refuses a) e h₁ = (opening_refused lent x.f x.c x.k x.n x.own (in_turn x.n) a e).replica
-
-    go : (t : Bool) → ((cond t (after_answer (number made_of.reply) (left made_of) []) (after_answer 1 lent [])).answer ≡ 0 → ⊥)
-        → (cond t (after_answer (number made_of.reply) (left made_of) []) (after_answer 1 lent [])).replica ≡ lent
-    go true h₁ = by_reply made_of.reply refl h₁
-    go false h₁ = refl
 
 -- no rule of an opening has number 0
 some_number : {A : Type 0} (rules : List Rule) (x : A) (a : ℕ) → All (λ (r : Rule). 1 ≤ r.number) rules → judge rules x ≡ refuses a → 1 ≤ a
@@ -166,7 +163,7 @@ opening_number r f c k n own leaders a e =
     some_number (opening_refusals r _ n own leaders) _ a (p, (p, (p, (p, (q, (q, tt)))))) (reply-refuses r [] (opening_core r f c k n own leaders) a e)
 
 module _ (lent : Replica) (o input : List ℕ) where
-  abbrev asked : Opening
+  abbrev asked : Option Opening
   asked = opening_of (take opening_length input)
 
   -- BAD OPENINGS: where the opening isn't accepted, the program prints `0 1 0 0 0` and stops, with replica and output region as they were lent
@@ -175,15 +172,15 @@ module _ (lent : Replica) (o input : List ℕ) where
   bad_opening_prints h = rw (ne_eqb (opens lent asked).answer 0 h, opens_nothing lent asked h) (run_stopped _ _ refl)
 
   -- "empty input or a first record that isn't a well-formed kind 12"
-  pub malformed_opening_prints : asked.well ≡ false → program lent o input ≡ ran lent o (refused_opening ∷ []) 0
+  pub malformed_opening_prints : asked ≡ None → program lent o input ≡ ran lent o (refused_opening ∷ []) 0
   unfolding opens_with
   malformed_opening_prints e = bad_opening_prints (rw e (λ z. omega (arith, z)))
 
   -- "bad settings"
-  pub refused_opening_prints : (a : ℕ) → asked.well ≡ true → (opening_call lent asked.f asked.c asked.k asked.n asked.own (in_turn asked.n)).reply ≡ refuses a
+  pub refused_opening_prints : (x : Opening) (a : ℕ) → asked ≡ Some x → (opening_call lent x.f x.c x.k x.n x.own (in_turn x.n)).reply ≡ refuses a
       → program lent o input ≡ ran lent o (refused_opening ∷ []) 0
   unfolding opens_with
-  refused_opening_prints a w e = bad_opening_prints (rw (w, e) (λ z. omega (arith, z, opening_number lent _ _ _ _ _ _ a e)))
+  refused_opening_prints x a w e = bad_opening_prints (rw (w, e) (λ z. omega (arith, z, opening_number lent _ _ _ _ _ _ a e)))
 
 pub empty_input_prints : (lent : Replica) (o : List ℕ) → program lent o [] ≡ ran lent o (refused_opening ∷ []) 0
 unfolding opening_of well_formed

@@ -210,6 +210,36 @@ module _ (ended : Bool) (input : List ℕ) where
       by true g t u = stepped_front s (steps ended input k (step ended input s)) (going ended input (length s.lines) s.place g) (subst (λ (x : Standing). Stepped x (steps ended input k (step ended input s))) (step-goes s g) t)
       by false g t u = rw (step_ends s g) u
 
+  -- nothing is taken where no byte is left
+  pub nothing_goes : (s : Standing) → length (rest input s) ≡ 0 → goes ended input (length s.lines) s.place ≡ false
+  nothing_goes s z = by (goes ended input (length s.lines) s.place) refl
+    where
+      by : (t : Bool) → goes ended input (length s.lines) s.place ≡ t → t ≡ false
+      by true g = absurd (let h = ready_some ended (rest input s) (going ended input (length s.lines) s.place g).piece in omega (arith, h, z))
+      by false g = refl
+
+  pub step_less : (s : Standing) → goes ended input (length s.lines) s.place ≡ true → length (rest input (step ended input s)) < length (rest input s)
+  step_less s g =
+      let m = step_moves s g in
+      let h = ready_some ended (rest input s) (going ended input (length s.lines) s.place g).piece in
+      let l = length-drop s.place.at input in
+      let n = length-drop (step ended input s).place.at input in
+      omega (arith, m, h, l, n)
+
+  -- as many steps as bytes are left, or more, leave the same
+  pub steps_settle : (j k : ℕ) (s : Standing) → length (rest input s) ≤ j → length (rest input s) ≤ k → steps ended input j s ≡ steps ended input k s
+  unfolding steps
+  steps_settle zero zero s a b = refl
+  steps_settle zero (suc k) s a b = sym (steps_end (suc k) s (nothing_goes s (omega arith)))
+  steps_settle (suc j) zero s a b = steps_end (suc j) s (nothing_goes s (omega arith))
+  steps_settle (suc j) (suc k) s a b = by (goes ended input (length s.lines) s.place) refl (steps_settle j k (step ended input s))
+    where
+      by : (t : Bool) → goes ended input (length s.lines) s.place ≡ t
+          → (length (rest input (step ended input s)) ≤ j → length (rest input (step ended input s)) ≤ k → steps ended input j (step ended input s) ≡ steps ended input k (step ended input s))
+          → steps ended input j (step ended input s) ≡ steps ended input k (step ended input s)
+      by true g f = let m = step_less s g in f (omega arith) (omega arith)
+      by false g f = rw (step_ends s g) (steps_end j s g ∙ sym (steps_end k s g))
+
 -- ---- a whole input
 module _ (input : List ℕ) where
   -- with a turn for each byte and room for each line, the steps end where the program has stopped or nothing is left

@@ -1,6 +1,6 @@
 -- THE RUN PROGRAM'S INPUT (01, Known results: "The run program reads records on standard input"): its opening, how the bytes after it are cut into records, and
 -- what each record asks. Assumes nothing.
-use Rattle.std.specs.Prelude.{ℕ, zero, suc, ◌+◌, ◌*◌, Bool, true, false, cond, ◌&&◌, List, [], ◌∷◌, eqb, leb, length, take, drop}
+use Rattle.std.specs.Prelude.{ℕ, zero, suc, ◌+◌, ◌*◌, Bool, cond, ◌&&◌, Option, Some, None, List, [], ◌∷◌, eqb, leb, length, take, drop}
 use Rattle.settings.specs.Quorum.{largest}
 use Rattle.codec.specs.Bytes.{part}
 use Rattle.codec.specs.Names.{name_length}
@@ -40,11 +40,9 @@ well_formed r =
     && (eqb (length_of r) opening_length && (eqb (kind_of r) opening_kind && (eqb (sender_of r) 0 && eqb (number_at r 18 6) 0)))
 
 -- its five numbers, where it is one
-unfoldable pub opening_of : List ℕ → Opening
+unfoldable pub opening_of : List ℕ → Option Opening
 opening_of r =
-    cond (well_formed r)
-    (record { well = true; f = number_at r 8 2; c = number_at r 10 2; k = number_at r 12 2; n = number_at r 14 2; own = number_at r 16 2 })
-    (record { well = false; f = 0; c = 0; k = 0; n = 0; own = 0 })
+    cond (well_formed r) (Some (record { f = number_at r 8 2; c = number_at r 10 2; k = number_at r 12 2; n = number_at r 14 2; own = number_at r 16 2 })) None
 
 -- ---- the records after it
 -- a length that a record can have: its header's at least

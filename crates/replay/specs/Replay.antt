@@ -1,5 +1,5 @@
 -- A RUN OF THE PROGRAM (01: Known results): over a whole input as a list of pieces, and over bytes at hand as the code goes through them. Assumes nothing.
-use Rattle.std.specs.Prelude.{ℕ, zero, suc, ◌+◌, Bool, cond, not, ◌&&◌, ◌||◌, List, [], ◌∷◌, ◌++◌, eqb, ltb, leb, length, take, drop}
+use Rattle.std.specs.Prelude.{ℕ, zero, suc, ◌+◌, Bool, cond, not, ◌&&◌, ◌||◌, Option, Some, None, List, [], ◌∷◌, ◌++◌, eqb, ltb, leb, length, take, drop}
 use Rattle.settings.specs.Opening.{in_turn}
 use Rattle.codec.specs.Bytes.{patch}
 use Rattle.wire.specs.Fields.{header_length, length_of}
@@ -51,15 +51,14 @@ run s (p ∷ ps) = run (taken s p) ps
 abbrev pub followed_by : List Line → Ran → Ran
 followed_by lines s = record { replica = s.replica; output = s.output; lines = lines ++ s.lines; next = s.next }
 
--- the opening is a call too, but is made only where the first record is a well-formed one
-unfoldable pub opens_with : List ℕ → Replica → Opening → Answered
-opens_with leaders r o =
-    let x = opening_call r o.f o.c o.k o.n o.own leaders in
-    cond o.well (after_answer (number x.reply) (left x) []) (after_answer 1 r [])
+-- the opening is a call too, but is made only where the first record is a well-formed one: with the leader list of a cluster of its n
+unfoldable pub opens_with : (ℕ → List ℕ) → Replica → Option Opening → Answered
+opens_with leaders r None = after_answer 1 r []
+opens_with leaders r (Some o) = let x = opening_call r o.f o.c o.k o.n o.own (leaders o.n) in after_answer (number x.reply) (left x) []
 
 -- 02, 2.1: "the list 0 to n−1 ...; the run program opens with it"
-abbrev pub opens : Replica → Opening → Answered
-opens r o = opens_with (in_turn o.n) r o
+abbrev pub opens : Replica → Option Opening → Answered
+opens r o = opens_with in_turn r o
 
 -- "An accepted opening prints no line"; any other prints `0 1 0 0 0`, "and stop"
 unfoldable pub begun : Answered → List ℕ → Ran

@@ -3,45 +3,47 @@ ghost use Rattle.std.specs.Prelude.{◌≡◌, ◌≤◌, length};
 ghost use Rattle.settings.specs.Quorum.{largest};
 ghost use Rattle.settings.specs.Opening.{in_turn};
 ghost use Rattle.codec.specs.Bytes.{part, patch};
-ghost use Rattle.protocol.specs.Contents.{none};
-ghost use Rattle.protocol.specs.OneCall.{timer, propose, receive};
-ghost use Rattle.replay.specs.Input.{well_formed, opening_of, sized, begins_whole, calls, answers, asks_record};
-ghost use Rattle.replay.specs.Replay.{known, ready, goes};
-ghost use Rattle.replay.specs.Requests.{idle, request_of, front_request, request_at};
+ghost use Rattle.protocol.specs.OneCall.{Call};
+ghost use Rattle.replay.specs.Input.{well_formed, opening_of, sized, front, asks_host, asks_record};
+ghost use Rattle.replay.specs.Replay.{known, ready};
+ghost use Rattle.replay.specs.Requests.{asked_of, checked, piece_of, told, told_front, told_next, request_at};
 
-use crate::{Opening, Place, Request, lines};
+use crate::{Ask, Opening, Place, Request, lines};
 use codec::name_at;
 use codec::num::{le_at, u16_at, u32_at, u64_at};
 use replica::Name;
-use settings::{Settings, View};
-use wire::length;
+use settings::{Refusal, Settings, View};
 
-// The lengths of what the host says to the program: kinds 12, 10 and 11.
-pub const OPENING: usize = 24;
+// The kinds of what the host says to the program.
+mod kind {
+    pub const TIMER: u16 = 10;
 
-const TIMER: usize = 16;
+    pub const PROPOSE: u16 = 11;
 
-const PROPOSE: usize = 40;
+    pub const OPENING: u16 = 12;
+}
+
+// Their lengths.
+pub mod length {
+    pub const TIMER: usize = 16;
+
+    pub const PROPOSE: usize = 40;
+
+    pub const OPENING: usize = 24;
+}
 
 // ---- the opening
 
 // Its length, kind 12, sender 0, and 6 zero bytes at the end.
+#[tactic(auto, unfolding(crate::specs::Input::well_formed))]
 fn well_formed(rec: &[u8]) -> bool
     ensures { result ≡ well_formed rec.now }
 {
-    if rec.len() != OPENING {
-        return false;
-    }
-    if u32_at(rec, 0) as usize != OPENING {
-        return false;
-    }
-    if u16_at(rec, 4) != 12 {
-        return false;
-    }
-    if u16_at(rec, 6) != 0 {
-        return false;
-    }
-    le_at(rec, 18, 6) == 0
+    rec.len() == length::OPENING
+        && u32_at(rec, 0) as usize == length::OPENING
+        && u16_at(rec, 4) == kind::OPENING
+        && u16_at(rec, 6) == 0
+        && le_at(rec, 18, 6) == 0
 }
 
 // The numbers 0 to 31, at the front of a region: the first n of them are the leader list of a cluster of n.
@@ -49,35 +51,25 @@ pub fn put_in_turn(list: &mut [u8])
     requires { largest ≤ length list.old }
     ensures { list.new ≡ patch list.old 0 (in_turn largest) }
 {
-    let mut i: u64 = 0;
-    while i < Settings::LARGEST {
+    for i in 0..Settings::LARGEST {
         list[i as usize] = i as u8;
-        i += 1;
     }
 }
 
-// The first record, of which at most 24 bytes are handed over.
-pub fn opening(rec: &[u8]) -> Opening
+// The first record's numbers, of which at most 24 bytes are handed over.
+pub fn opening(rec: &[u8]) -> Option<Opening>
     ensures { result ≡ opening_of rec.now }
 {
     if !well_formed(rec) {
-        return Opening {
-            well: false,
-            f: 0,
-            c: 0,
-            k: 0,
-            n: 0,
-            own: 0,
-        };
+        return None;
     }
-    Opening {
-        well: true,
-        f: le_at(rec, 8, 2),
-        c: le_at(rec, 10, 2),
-        k: le_at(rec, 12, 2),
-        n: le_at(rec, 14, 2),
-        own: le_at(rec, 16, 2),
-    }
+    Some(Opening {
+        f: u16_at(rec, 8) as u64,
+        c: u16_at(rec, 10) as u64,
+        k: u16_at(rec, 12) as u64,
+        n: u16_at(rec, 14) as u64,
+        own: u16_at(rec, 16) as u64,
+    })
 }
 
 // ---- the piece at the front
@@ -86,187 +78,114 @@ pub fn opening(rec: &[u8]) -> Opening
 fn is_sized(n: usize) -> bool
     ensures { result ≡ sized n }
 {
-    if n < length::HEADER {
-        return false;
-    }
-    n <= length::LONGEST_RECORD
+    (wire::length::HEADER..=wire::length::LONGEST_RECORD).contains(&n)
 }
 
-fn begins_whole(rest: &[u8]) -> bool
-    ensures { result ≡ begins_whole rest.now }
+// The record that the bytes begin with, where one is there.
+fn first_record(rest: &[u8]) -> Option<&[u8]>
+    ensures { piece_of result ≡ front rest.now }
 {
-    if rest.len() < length::HEADER {
-        return false;
+    if rest.len() < wire::length::HEADER {
+        return None;
     }
     let n = u32_at(rest, 0) as usize;
     if !is_sized(n) {
-        return false;
+        return None;
     }
-    n <= rest.len()
+    rest.get(..n)
 }
 
+// The piece is known, whatever follows: its record is there, or none can be.
 pub fn is_known(rest: &[u8]) -> bool
     ensures { result ≡ known rest.now }
 {
-    if rest.len() < length::HEADER {
+    if rest.len() < wire::length::HEADER {
         return false;
     }
     let n = u32_at(rest, 0) as usize;
-    if !is_sized(n) {
-        return true;
-    }
-    n <= rest.len()
+    !is_sized(n) || n <= rest.len()
 }
 
 // It can be taken: where the input has ended, whatever is left of it.
-pub fn is_ready(rest: &[u8], ended: bool) -> bool
+fn is_ready(rest: &[u8], ended: bool) -> bool
     ensures { result ≡ ready ended rest.now }
 {
     if ended {
-        return 0 < rest.len();
+        !rest.is_empty()
+    } else {
+        is_known(rest)
     }
-    is_known(rest)
-}
-
-pub fn goes_on(input: &[u8], room: usize, ended: bool, p: Place) -> bool
-    ensures { result ≡ goes ended input.now room p }
-{
-    if p.next == 0 {
-        return false;
-    }
-    if room < p.filled {
-        return false;
-    }
-    if room - p.filled < lines::LINE {
-        return false;
-    }
-    let at = p.at;
-    if input.len() < at {
-        return false;
-    }
-    is_ready(&input[at..], ended)
 }
 
 // ---- what it asks
 
-fn nothing() -> Request
-    ensures { result ≡ idle }
-{
-    Request {
-        takes: false,
-        used: 0,
-        answer: 0,
-        timer: false,
-        view: View(0),
-        propose: false,
-        name: Name { bytes: [0u8; 32] },
-        receive: false,
-    }
-}
-
-fn no_call(used: usize, answer: u64) -> Request
-    ensures { result ≡ request_of used (answers answer) }
-{
-    let mut r = nothing();
-    r.takes = true;
-    r.used = used;
-    r.answer = answer;
-    r
-}
-
-fn timer(used: usize, view: View) -> Request
-    ensures { result ≡ request_of used (calls (timer view.0)) }
-{
-    let mut r = no_call(used, 0);
-    r.timer = true;
-    r.view = view;
-    r
-}
-
-fn propose(used: usize, bytes: [u8; 32]) -> Request
-    ensures { result ≡ request_of used (calls (propose bytes none)) }
-{
-    let name = Name { bytes };
-    let mut r = no_call(used, 0);
-    r.propose = true;
-    r.name = name;
-    r
-}
-
-fn receive(rec: &[u8]) -> Request
-    ensures { result ≡ request_of (length rec.now) (calls (receive rec.now none)) }
-{
-    let mut r = no_call(rec.len(), 0);
-    r.receive = true;
-    r
-}
-
-// A timer (kind 10) or a proposal (kind 11) has one length and sender 0; any other record is the replica's to judge.
-fn asked(rec: &[u8]) -> Request
+// What the host says has one length, and sender 0.
+fn from_host(rec: &[u8], size: usize) -> Result<(), Refusal>
     requires { 8 ≤ length rec.now }
-    ensures { result ≡ request_of (length rec.now) (asks_record rec.now) }
+    ensures { (c : Call) → checked result c ≡ asks_host rec.now size c }
 {
-    let kind = u16_at(rec, 4);
+    if rec.len() != size {
+        return Err(Refusal::Length);
+    }
     let sender = u16_at(rec, 6);
-    if kind == 10 {
-        if rec.len() != TIMER {
-            return no_call(rec.len(), 3);
-        }
-        if sender != 0 {
-            return no_call(rec.len(), 6);
-        }
-        return timer(rec.len(), View(u64_at(rec, 8)));
+    if sender != 0 {
+        return Err(Refusal::Party);
     }
-    if kind == 11 {
-        if rec.len() != PROPOSE {
-            return no_call(rec.len(), 3);
-        }
-        if sender != 0 {
-            return no_call(rec.len(), 6);
-        }
-        return propose(rec.len(), name_at(rec, 8));
-    }
-    receive(rec)
+    Ok(())
 }
 
-// Bytes that begin with no record get answer 3.
-fn front(rest: &[u8]) -> Request
-    ensures { result ≡ front_request rest.now }
+// A timer or a proposal, or any other record, which is the replica's to judge.
+fn asked(rec: &[u8]) -> Result<Ask<'_>, Refusal>
+    requires { 8 ≤ length rec.now }
+    ensures { asked_of result ≡ asks_record rec.now }
 {
-    if !begins_whole(rest) {
-        return no_call(rest.len(), 3);
+    match u16_at(rec, 4) {
+        kind::TIMER => {
+            from_host(rec, length::TIMER)?;
+            Ok(Ask::Timer(View(u64_at(rec, 8))))
+        }
+        kind::PROPOSE => {
+            from_host(rec, length::PROPOSE)?;
+            let bytes = name_at(rec, 8);
+            Ok(Ask::Propose(Name { bytes }))
+        }
+        _ => Ok(Ask::Record(rec)),
     }
-    let n = u32_at(rest, 0) as usize;
-    asked(&rest[0..n])
+}
+
+// Bytes that begin with no record are refused as a record of a wrong length.
+fn front(rest: &[u8]) -> Request<'_>
+    ensures { told result ≡ told_front rest.now }
+{
+    match first_record(rest) {
+        Some(rec) => Request {
+            used: rec.len(),
+            asks: asked(rec),
+        },
+        None => Request {
+            used: rest.len(),
+            asks: Err(Refusal::Length),
+        },
+    }
 }
 
 // The piece from the place on, if it is to be taken.
-pub fn request(input: &[u8], room: usize, ended: bool, p: Place) -> Request
-    ensures { result ≡ request_at ended input.now room p }
+pub fn next_request(input: &[u8], room: usize, ended: bool, p: Place) -> Option<Request<'_>>
+    ensures { told_next result ≡ request_at ended input.now room p }
 {
-    if !goes_on(input, room, ended, p) {
-        return nothing();
+    if p.next == 0 || room < p.filled || room - p.filled < lines::LINE {
+        return None;
     }
-    let at = p.at;
-    front(&input[at..])
-}
-
-// The n bytes from place at on, or those of them that there are.
-pub fn part_of<'a>(input: &'a [u8], at: usize, n: usize) -> &'a [u8]
-    ensures { result.now ≡ part input.now at n }
-{
-    if input.len() < at {
-        return &input[0..0];
+    let rest = input.get(p.at..)?;
+    if !is_ready(rest, ended) {
+        return None;
     }
-    if n < input.len() - at {
-        return &input[at..at + n];
-    }
-    &input[at..]
+    Some(front(rest))
 }
 
 // The first n bytes, or those of them that there are.
-pub fn first_of<'a>(list: &'a [u8], n: u64) -> &'a [u8]
+pub fn first_of(list: &[u8], n: usize) -> &[u8]
     ensures { result.now ≡ part list.now 0 n }
 {
-    part_of(list, 0, n as usize)
+    list.get(..n).unwrap_or(list)
 }

@@ -1,10 +1,11 @@
--- Laws of specs/Running.antt for the walks: one turn, and turns by halves. Assumes nothing.
+-- Laws of specs/Running.antt: one turn, and one turn after another. Assumes nothing.
 use Prim.Native.Nat.{ℕ, zero, suc, ◌+◌, ◌-◌, ◌^◌, ◌≤◌, ◌<◌}
 use native.Mathlib.Omega.{arith}
 use native.Mathlib.Nat.{zero-add, suc-add}
 use mathlib.Core.Path.{◌≡◌, refl, sym, ap, subst, ◌∙◌}
 use mathlib.Core.Bool.{Bool, true, false, cond, not, ◌||◌, true≢false}
 use mathlib.Core.Logic.{◌⊎◌, inl, inr}
+use Rattle.std.specs.Prelude.{Option}
 use mathlib.Core.List.{List, [], ◌∷◌, ◌++◌, append-nil, append_assoc}
 use borrow.Author.Tests.{eqb-true, eqb-false, not-true, le-leb, ltb-true, ltb-false}
 use lib.Dec.{eqb, ltb}
@@ -25,14 +26,11 @@ use Rattle.replay.specs.declared.Place.{Place}
 use Rattle.replay.specs.Input.{opening_of, pieces}
 use Rattle.replay.specs.Lines.{line_length, line_bytes, lines_bytes, refused_opening}
 use Rattle.replay.specs.Replay.{Answered, after_answer, Ran, run, followed_by, opens, opens_with, begun, known, ready, goes, Standing, standing, start, stopped, steps}
-use Rattle.replay.specs.declared.Depth.{Depth}
-use Rattle.replay.specs.Requests.{deeper}
 use Rattle.replay.proofs.InTurn.{opens-in_turn}
-use Rattle.replay.proofs.Halves.{both_halves, over_at}
 use Rattle.replay.proofs.Laws.{ready_some}
 use Rattle.replay.proofs.Whole.{ran_from, Stepped, steps_are_run, steps_move, run_goes_on}
 use Rattle.run.specs.declared.Turn.{Turn}
-use Rattle.run.specs.Running.{FirstRead, Refilled, Kept, Between, between, ran_of, goes_on, Went, Turned, Turns, spent, done, turn, first_turn, empty_block, Program, ProgramWithStore}
+use Rattle.run.specs.Running.{FirstRead, Refilled, Kept, Between, between, ran_of, goes_on, Went, Turns, spent, done, turn, first_turn, empty_block, Program, ProgramWithStore}
 
 nothing_of : (l : List ℕ) → length l ≡ 0 → l ≡ []
 nothing_of [] e = refl
@@ -41,14 +39,14 @@ nothing_of (x ∷ l) e = absurd (omega (arith, e))
 -- ---- one turn: bytes are read, the known pieces are taken, and the rest is kept
 module _ (p q : Replica) (o o' lines lines' before after kept : List ℕ) (t u v : Turn) (place : Place)
     (fill : Refilled t before u after)
-    (steps-made : standing q o' lines' place ≡ steps u.ended (take u.have after) (2 ^ 62 - 1) (standing p o lines (start u.next)))
+    (steps-made : standing q o' lines' place ≡ steps u.ended (take u.have after) (length (take u.have after)) (standing p o lines (start u.next)))
     (keeps : Kept u after place v kept)
     (on : goes_on t ≡ true) (room : line_length ≤ length lines) where
   abbrev first : Standing
   first = standing p o lines (start u.next)
 
   stepped : Stepped u.ended (take u.have after) first (standing q o' lines' place)
-  stepped = subst (Stepped u.ended (take u.have after) first) (sym steps-made) (steps_are_run u.ended (take u.have after) (2 ^ 62 - 1) first)
+  stepped = subst (Stepped u.ended (take u.have after) first) (sym steps-made) (steps_are_run u.ended (take u.have after) (length (take u.have after)) first)
 
   -- nothing is read where the input has ended afterwards
   none_read : u.ended ≡ true → fill.read ≡ []
@@ -77,13 +75,17 @@ module _ (p q : Replica) (o o' lines lines' before after kept : List ℕ) (t u v
   not_stopped : eqb u.next 0 ≡ false
   not_stopped = ap (λ (n : ℕ). eqb n 0) fill.next ∙ not-true (eqb t.next 0) (and_true _ _ on).0
 
+  moved : (k : ℕ) → 0 < k → goes u.ended (take u.have after) (length lines) (start u.next) ≡ true → 0 < (steps u.ended (take u.have after) k first).place.at
+  moved zero h g = absurd (omega arith)
+  moved (suc k) h g = steps_move u.ended (take u.have after) k first g
+
   -- where a piece can be taken, one is, and fewer bytes are at hand
   takes_one : ready u.ended (take u.have after) ≡ true → v.have < u.have
   unfolding goes
   takes_one r =
       let g : goes u.ended (take u.have after) (length lines) (start u.next) ≡ true = rw (not_stopped, le-leb line_length (length lines) room, r) in
-      let m : 0 < place.at = subst (λ (s : Standing). 0 < s.place.at) (sym steps-made) (steps_move u.ended (take u.have after) (2 ^ 62 - 2) first g) in
       let some = ready_some u.ended (take u.have after) r in
+      let m : 0 < place.at = subst (λ (s : Standing). 0 < s.place.at) (sym steps-made) (moved (length (take u.have after)) some g) in
       omega (arith, m, some, length-take u.have after, keeps.have)
 
   no_more : v.have ≤ t.have + length fill.read
@@ -136,13 +138,15 @@ module _ (p q : Replica) (o o' lines lines' before after kept : List ℕ) (t u v
 
 -- the steps over the bytes at hand
 pub known_steps : {c : Counters} {m : List ℕ} {s : List Block} {o' lines' input : List ℕ} {r first : Place} (t : Turn) (buffer : List ℕ) (p : Replica) (o lines : List ℕ)
-    → input ≡ part buffer 0 t.have → first ≡ start t.next → standing (lent_to c m s) o' lines' r ≡ steps t.ended input (2 ^ 62 - 1) (standing p o lines first)
-    → standing (lent_to c m s) o' lines' r ≡ steps t.ended (take t.have buffer) (2 ^ 62 - 1) (standing p o lines (start t.next))
+    → input ≡ part buffer 0 t.have → first ≡ start t.next → standing (lent_to c m s) o' lines' r ≡ steps t.ended input (length input) (standing p o lines first)
+    → standing (lent_to c m s) o' lines' r ≡ steps t.ended (take t.have buffer) (length (take t.have buffer)) (standing p o lines (start t.next))
 unfolding part
 known_steps {first = first} t buffer p o lines e f is =
-    is ∙ (ap (λ (l : List ℕ). steps t.ended l (2 ^ 62 - 1) (standing p o lines first)) e ∙ ap (λ (z : Place). steps t.ended (take t.have buffer) (2 ^ 62 - 1) (standing p o lines z)) f)
+    is
+    ∙ (ap (λ (l : List ℕ). steps t.ended l (length l) (standing p o lines first)) e
+    ∙ ap (λ (z : Place). steps t.ended (take t.have buffer) (length (take t.have buffer)) (standing p o lines z)) f)
 
--- ---- turns by halves
+-- ---- turns one after another
 -- once the program is over, no turn is made
 over_stays : {k : ℕ} {x z : Between} → goes_on x.turn ≡ false → Turns k x z → z ≡ x
 over_stays n (spent x) = refl
@@ -154,36 +158,23 @@ turns_add {k = k} {z = z} (spent x) t = subst (λ (n : ℕ). Turns n x z) (sym (
 turns_add {k = k} (done j x n) t = subst (Turns (j + k) x) (sym (over_stays n t)) (done (j + k) x n)
 turns_add {k = k} {z = z} (turn j x y w g W s) t = subst (λ (n : ℕ). Turns n x z) (sym (suc-add j k)) (turn (j + k) x y z g W (turns_add s t))
 
-one_turn_lem : (x y : Between) → Turned x y → Turns 1 x y
-one_turn_lem x y t = by (goes_on x.turn) refl
-  where
-    by : (z : Bool) → goes_on x.turn ≡ z → Turns 1 x y
-    by true g = turn 0 x y y g (t.going g) (spent y)
-    by false n = subst (Turns 1 x) (sym (t.over n)) (done 1 x n)
+-- one more, and no more
+pub one_more : {k : ℕ} {x y z : Between} → Turns k x y → goes_on y.turn ≡ true → Went y z → Turns (k + 1) x z
+one_more {y = y} {z = z} t g w = turns_add t (turn 0 y z z g w (spent z))
 
-pub turned_on : {x y : Between} → goes_on x.turn ≡ true → Went x y → Turned x y
-turned_on g w = record { going = λ _. w; over = λ n. absurd (true≢false (sym g ∙ n)) }
+pub no_more_turns : {k : ℕ} {x y : Between} (most : ℕ) → Turns k x y → k ≤ most → goes_on y.turn ≡ false → Turns most x y
+no_more_turns {k = k} {x = x} {y = y} most t h n =
+    let e : k + (most - k) ≡ most = omega arith in subst (λ (j : ℕ). Turns j x y) e (turns_add t (done (most - k) y n))
 
-pub turned_over : {x : Between} → goes_on x.turn ≡ false → Turned x x
-turned_over n = record { going = λ g. absurd (true≢false (sym g ∙ n)); over = λ _. refl }
-
-pub turns_halves : {x x₁ x₂ x₃ : Between} (level : ℕ) (g : Bool) (r : Depth) → r ≡ deeper level g → r.goes ≡ true
-    → Turns (2 ^ r.level - 1) x x₁ → Turned x₁ x₂ → Turns (2 ^ r.level - 1) x₂ x₃ → Turns (2 ^ level - 1) x x₃
-turns_halves {x} {x₁} {x₂} {x₃} level g r is y a b c =
-    let e = both_halves level g r is y in
-    let n : 2 ^ r.level - 1 + (1 + (2 ^ r.level - 1)) ≡ 2 ^ level - 1 = omega (arith, e) in
-    subst (λ (k : ℕ). Turns k x x₃) n (turns_add a (turns_add (one_turn_lem x₁ x₂ b) c))
-
-pub no_turns : (level : ℕ) (x : Between) (g : Bool) (r : Depth) → g ≡ goes_on x.turn → r ≡ deeper level g → r.goes ≡ false → Turns (2 ^ level - 1) x x
-no_turns zero x g r e is n = spent x
-no_turns (suc l) x g r e is n = done (2 ^ suc l - 1) x (sym e ∙ over_at l g r is n)
+pub all_turns : {k : ℕ} {x y : Between} (most : ℕ) → Turns k x y → k ≡ most → Turns most x y
+all_turns {x = x} {y = y} most t e = subst (λ (j : ℕ). Turns j x y) e t
 
 -- ---- the whole program
-pub program_went : {buffer buffer₁ : List ℕ} {o : Opening} {c₀ c₁ c₂ : Counters} {m₁ m₂ : List ℕ} {s₂ : List Block} {o₂ l₁ l₂ : List ℕ} {a : ℕ} {place : Place} {t t₂ : Turn}
+pub program_went : {buffer buffer₁ : List ℕ} {o : Option Opening} {c₀ c₁ c₂ : Counters} {m₁ m₂ : List ℕ} {s₂ : List Block} {o₂ l₁ l₂ : List ℕ} {a : ℕ} {place : Place} {t t₂ : Turn}
     (m : List ℕ) (s : List Block) (out l last-buffer : List ℕ) → FirstRead buffer o → largest ≤ length buffer → buffer₁ ≡ patch buffer 0 (in_turn largest) → c₀ ≡ opened
-    → after_answer a (lent_to c₁ m₁ s) [] ≡ opens_with (part buffer₁ 0 o.n) (lent_to c₀ m s) o
+    → after_answer a (lent_to c₁ m₁ s) [] ≡ opens_with (part buffer₁ 0) (lent_to c₀ m s) o
     → (place ≡ cond (eqb a 0) (start 1) stopped) × (l₁ ≡ cond (eqb a 0) l (patch l 0 (line_bytes refused_opening))) → t ≡ record { have = 0; ended = false; next = place.next }
-    → Turns (2 ^ 62 - 1) (between (lent_to c₁ m₁ s) out buffer₁ l₁ t) (between (lent_to c₂ m₂ s₂) o₂ last-buffer l₂ t₂) → Program (2 ^ 62 - 1) m s out l m₂ s₂ o₂ l₂ t₂
+    → Turns (2 ^ 64 - 1) (between (lent_to c₁ m₁ s) out buffer₁ l₁ t) (between (lent_to c₂ m₂ s₂) o₂ last-buffer l₂ t₂) → Program (2 ^ 64 - 1) m s out l m₂ s₂ o₂ l₂ t₂
 unfolding begun lines_bytes
 program_went {buffer} {buffer₁} {o} {c₀} {c₁} {c₂} {m₁} {m₂} {s₂} {o₂} {l₁} {l₂} {a} {place} {t} {t₂} m s out l last-buffer f fits put e₀ e₁ e₂ e₃ turns =
     record {
@@ -191,7 +182,7 @@ program_went {buffer} {buffer₁} {o} {c₀} {c₁} {c₂} {m₁} {m₂} {s₂} 
       short = omega (arith, length-take f.got buffer, f.most);
       counters = c₂;
       buffer = last-buffer;
-      went = subst (λ (x : Between). Turns (2 ^ 62 - 1) x (between (lent_to c₂ m₂ s₂) o₂ last-buffer l₂ t₂))
+      went = subst (λ (x : Between). Turns (2 ^ 64 - 1) x (between (lent_to c₂ m₂ s₂) o₂ last-buffer l₂ t₂))
           (begins ∙ ap (λ (x : Answered). first_turn (begun x out) (patch l 0 (lines_bytes (begun x out).lines))) opened_as_lem) turns;
     }
   where
@@ -212,7 +203,6 @@ program_went {buffer} {buffer₁} {o} {c₀} {c₁} {c₂} {m₁} {m₂} {s₂} 
         ap (λ (r : List ℕ). between (lent_to c₁ m₁ s) out buffer₁ r t) e₂.1
         ∙ (ap (between (lent_to c₁ m₁ s) out buffer₁ (cond (eqb a 0) l (patch l 0 (line_bytes refused_opening)))) (e₃ ∙ ap (λ (p : Place). record { have = 0; ended = false; next = p.next }) e₂.0) ∙ by (eqb a 0))
 
-pub with_empty_store : {b : Block} {m o l m' o' l' : List ℕ} {s' : List Block} {t : Turn} → b ≡ empty_block
-    → Program (2 ^ 62 - 1) m (replicate store_length b) o l m' s' o' l' t → ProgramWithStore (2 ^ 62 - 1) m o l m' o' l' t
-with_empty_store {m = m} {o = o} {l = l} {m' = m'} {o' = o'} {l' = l'} {s' = s'} {t = t} e p =
-    record { store = s'; program = subst (λ (x : Block). Program (2 ^ 62 - 1) m (replicate store_length x) o l m' s' o' l' t) e p }
+pub with_empty_store : {m o l m' o' l' : List ℕ} {s' : List Block} {t : Turn}
+    → Program (2 ^ 64 - 1) m (replicate store_length empty_block) o l m' s' o' l' t → ProgramWithStore (2 ^ 64 - 1) m o l m' o' l' t
+with_empty_store {s' = s'} p = record { store = s'; program = p }

@@ -110,9 +110,9 @@ ends_there x n short rest nothing = by (eqb x.turn.next 0) x.turn.ended (ltb 0 x
     by false true true p q r f = absurd (true≢false f)
     by false false h p q r f = absurd (true≢false f)
 
--- ---- the whole program: fewer than 2 ^ 60 bytes are read to their end
-pub comes_to_its_end : {m : List ℕ} {s : List Block} {o l m' : List ℕ} {s' : List Block} {o' l' : List ℕ} {t : Turn} (p : Program (2 ^ 62 - 1) m s o l m' s' o' l' t)
-    → length (through p.went).read < 2 ^ 60 → goes_on t ≡ false
+-- ---- the whole program: fewer than 2 ^ 62 bytes are read to their end
+pub comes_to_its_end : {m : List ℕ} {s : List Block} {o l m' : List ℕ} {s' : List Block} {o' l' : List ℕ} {t : Turn} (p : Program (2 ^ 64 - 1) m s o l m' s' o' l' t)
+    → length (through p.went).read < 2 ^ 62 → goes_on t ≡ false
 comes_to_its_end {t = t} p few = by (goes_on t) refl
   where
     by : (z : Bool) → goes_on t ≡ z → goes_on t ≡ false

@@ -1,5 +1,5 @@
 -- WHAT THE RUN PROGRAM DOES, turn by turn. What a read brings is free: no contract can say what the operating system hands over. Assumes nothing.
-use Rattle.std.specs.Prelude.{ℕ, zero, suc, ◌+◌, ◌-◌, ◌≤◌, ◌<◌, ◌≡◌, Bool, true, false, not, ◌&&◌, ◌||◌, List, [], ◌++◌, ◌⊎◌, eqb, ltb, length, take, drop, replicate}
+use Rattle.std.specs.Prelude.{ℕ, zero, suc, ◌+◌, ◌-◌, ◌≤◌, ◌<◌, ◌≡◌, Bool, true, false, not, ◌&&◌, ◌||◌, Option, List, [], ◌++◌, ◌⊎◌, eqb, ltb, length, take, drop, replicate}
 use Rattle.codec.specs.Bytes.{patch}
 use Rattle.codec.specs.Names.{zero_name}
 use Rattle.blocks.specs.declared.Block.{Block}
@@ -22,7 +22,7 @@ empty_block = record { name = zero_name; parent = zero_name; height = record { 0
 
 -- ---- what is read
 -- the first record: at most its 24 bytes, which stand at the buffer's front then
-pub record FirstRead (buffer : List ℕ) (o : Opening) : Type 0 where
+pub record FirstRead (buffer : List ℕ) (o : Option Opening) : Type 0 where
   pub got : ℕ
   pub most : got ≤ opening_length
   pub is : o ≡ opening_of (take got buffer)
@@ -74,11 +74,6 @@ pub record Went (x y : Between) : Type 0 where
   pub given : y.region ≡ patch x.region 0 (lines_bytes lines)
   pub most : y.turn.have ≤ x.turn.have + length read
   pub gets_on : (0 < length read) ⊎ (((x.turn.ended ≡ false) × (y.turn.ended ≡ true)) ⊎ (y.turn.have < x.turn.have))
-
--- a turn, where the program goes on; otherwise everything stays
-pub record Turned (x y : Between) : Type 0 where
-  pub going : goes_on x.turn ≡ true → Went x y
-  pub over : goes_on x.turn ≡ false → y ≡ x
 
 -- turns one after another while the program goes on, at most so many
 pub data Turns : ℕ → Between → Between → Type 0 where

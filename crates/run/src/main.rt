@@ -8,20 +8,20 @@ mod console;
 mod printing;
 mod reading;
 
-ghost use Rattle.std.specs.Prelude.{◌≡◌, true, false, ◌-◌, ◌^◌, ◌≤◌, length, take};
+ghost use Rattle.std.specs.Prelude.{◌≡◌, true, ◌-◌, ◌^◌, ◌≤◌, length, take};
 ghost use Rattle.settings.specs.Quorum.{largest};
 ghost use Rattle.replica.specs.Reply.{lent_to};
 ghost use Rattle.replay.specs.Lines.{line_length};
 ghost use Rattle.replay.specs.Replay.{standing, start, steps};
-ghost use Rattle.run.specs.Running.{empty_block, goes_on, between, Went, Turned, Turns, Program, ProgramWithStore};
+ghost use Rattle.run.specs.Running.{goes_on, between, Went, Turns, Program, ProgramWithStore};
 
 use blocks::{Block, STORE_LENGTH};
 use console::Console;
 use counters::{Counters, opened};
 use refusals::regions::OUTPUT_LENGTH;
-use replay::input::{part_of, put_in_turn};
+use replay::input::{first_of, put_in_turn};
 use replay::lines::LINE;
-use replay::{Place, begin, open_call, run_steps, shallower, start};
+use replay::{Place, begin, open_call, run_steps, start};
 use settings::Height;
 use std::io;
 use wire::length::HEADER;
@@ -39,30 +39,12 @@ struct Turn {
     next: u64,
 }
 
-// ---- functions by value
-
-// No byte is at hand.
-fn first_turn(p: Place) -> Turn
-    ensures { result ≡ record { have = 0; ended = false; next = p.next } }
-{
-    Turn {
-        have: 0,
-        ended: false,
-        next: p.next,
-    }
-}
-
-fn empty_block() -> Block
-    ensures { result ≡ empty_block }
-{
-    Block {
-        name: [0u8; 32],
-        parent: [0u8; 32],
-        height: Height(0),
-    }
-}
-
-// ---- functions over counters and store
+// An entry of a store that holds nothing.
+const EMPTY: Block = Block {
+    name: [0u8; 32],
+    parent: [0u8; 32],
+    height: Height(0),
+};
 
 // The pieces that are known of the bytes at hand.
 fn replay_known(
@@ -75,12 +57,20 @@ fn replay_known(
     t: Turn,
 ) -> Place
     ensures { standing (lent_to counters.new mem.new store.new) out.new lines.new result
-        ≡ steps t.ended (take t.have buf.now) (2 ^ 62 - 1)
+        ≡ steps t.ended (take t.have buf.now) (length (take t.have buf.now))
         (standing (lent_to counters.old mem.old store.old) out.old lines.old (start t.next)) }
 {
-    let input = part_of(buf, 0, t.have);
-    let p = start(t.next);
-    run_steps(counters, mem, store, out, input, lines, t.ended, 62, p)
+    let input = first_of(buf, t.have);
+    run_steps(
+        counters,
+        mem,
+        store,
+        out,
+        input,
+        lines,
+        t.ended,
+        start(t.next),
+    )
 }
 
 // More bytes are read, the pieces that are known are taken, their lines are printed, and the rest of the bytes is kept.
@@ -104,30 +94,7 @@ fn take_turn<R: Input + Print>(
     reading::keep(buf, read, p)
 }
 
-// A turn, where the program goes on: otherwise nothing more is read.
-fn next_turn<R: Input + Print>(
-    console: &mut Console<R>,
-    counters: &mut Counters,
-    mem: &mut [u8],
-    store: &mut [Block],
-    out: &mut [u8],
-    buf: &mut [u8],
-    lines: &mut [u8],
-    t: Turn,
-) -> Turn
-    requires { line_length ≤ length lines.old }
-    ensures { Turned (between (lent_to counters.old mem.old store.old) out.old buf.old lines.old t)
-        (between (lent_to counters.new mem.new store.new) out.new buf.new lines.new result) }
-{
-    let going = reading::goes_on(t);
-    if going {
-        take_turn(console, counters, mem, store, out, buf, lines, t)
-    } else {
-        t
-    }
-}
-
-// Up to 2 ^ level - 1 turns: half of them before the middle one and half after it, as `run_steps`.
+// Turns one after another, while the program goes on.
 fn run_turns<R: Input + Print>(
     console: &mut Console<R>,
     counters: &mut Counters,
@@ -136,24 +103,20 @@ fn run_turns<R: Input + Print>(
     out: &mut [u8],
     buf: &mut [u8],
     lines: &mut [u8],
-    level: u64,
-    t: Turn,
+    first: Turn,
 ) -> Turn
     requires { line_length ≤ length lines.old }
-    ensures { Turns (2 ^ level - 1) (between (lent_to counters.old mem.old store.old) out.old buf.old lines.old t)
+    ensures { Turns (2 ^ 64 - 1) (between (lent_to counters.old mem.old store.old) out.old buf.old lines.old first)
         (between (lent_to counters.new mem.new store.new) out.new buf.new lines.new result) }
 {
-    let going = reading::goes_on(t);
-    let b = shallower(level, going);
-    if b.goes {
-        let early = run_turns(console, counters, mem, store, out, buf, lines, b.level, t);
-        let middle = next_turn(console, counters, mem, store, out, buf, lines, early);
-        run_turns(
-            console, counters, mem, store, out, buf, lines, b.level, middle,
-        )
-    } else {
-        t
+    let mut t = first;
+    for _turn in 0..u64::MAX {
+        if !reading::goes_on(t) {
+            return t;
+        }
+        t = take_turn(console, counters, mem, store, out, buf, lines, t);
     }
+    t
 }
 
 // ---- the regions: each as long as a call asks, the bytes at hand, and the lines
@@ -167,17 +130,22 @@ fn with_counters<R: Input + Print>(
     lines: &mut [u8],
 ) -> Turn
     requires { (line_length ≤ length lines.old) × (largest ≤ length buf.old) }
-    ensures { Program (2 ^ 62 - 1) mem.old store.old out.old lines.old mem.new store.new out.new lines.new result }
+    ensures { Program (2 ^ 64 - 1) mem.old store.old out.old lines.old mem.new store.new out.new lines.new result }
 {
-    let o = reading::first_record(console, buf);
+    let opening = reading::first_record(console, buf);
     // the first record is read: until more is, the numbers of the leader list stand in its place
     put_in_turn(buf);
     let mut c = opened();
-    let refusal = open_call(&mut c, mem, store, buf, o);
+    let refusal = open_call(&mut c, mem, store, buf, opening);
     let p = begin(lines, refusal);
     console.print(lines, p.filled);
-    let t = first_turn(p);
-    run_turns(console, &mut c, mem, store, out, buf, lines, 62, t)
+    // no byte is at hand
+    let first = Turn {
+        have: 0,
+        ended: false,
+        next: p.next,
+    };
+    run_turns(console, &mut c, mem, store, out, buf, lines, first)
 }
 
 fn with_store<R: Input + Print>(
@@ -188,10 +156,9 @@ fn with_store<R: Input + Print>(
     lines: &mut [u8],
 ) -> Turn
     requires { (line_length ≤ length lines.old) × (largest ≤ length buf.old) }
-    ensures { ProgramWithStore (2 ^ 62 - 1) mem.old out.old lines.old mem.new out.new lines.new result }
+    ensures { ProgramWithStore (2 ^ 64 - 1) mem.old out.old lines.old mem.new out.new lines.new result }
 {
-    let zero = empty_block();
-    let mut store = [zero; STORE_LENGTH];
+    let mut store = [EMPTY; STORE_LENGTH];
     with_counters(console, mem, &mut store, out, buf, lines)
 }
 

@@ -3,6 +3,7 @@ ghost use Rattle.std.specs.Prelude.{◌≤◌, length};
 ghost use Rattle.replay.specs.Lines.{line_length};
 
 use codec::num::u64_at;
+use replay::input::first_of;
 use replay::lines::LINE;
 use std::io;
 
@@ -19,13 +20,8 @@ fn print_line(rt: &impl Print, line: &[u8]) -> io::Result<()>
 
 // The lines in the first bytes of the region, as far as it goes.
 pub fn print(rt: &impl Print, lines: &[u8], filled: usize) -> io::Result<()> {
-    let mut at = 0;
-    while at < filled {
-        if lines.len() - at < LINE {
-            break;
-        }
-        print_line(rt, &lines[at..at + LINE])?;
-        at += LINE;
+    for line in first_of(lines, filled).chunks_exact(LINE) {
+        print_line(rt, line)?;
     }
     Ok(())
 }

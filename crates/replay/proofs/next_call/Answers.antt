@@ -1,15 +1,15 @@
-use borrow.Author.Tests.{eq-eqb, ne_eqb, lt-ltb, le-ltb}
+use mathlib.Core.Path.{sym, ◌∙◌}
+use borrow.Author.Tests.{eq-eqb, ne_eqb}
+use Rattle.settings.specs.Refusal.{number}
 use Rattle.replay.specs.Lines.{next_call}
+use Rattle.replay.proofs.Laws.{next_number}
+use native.Mathlib.Omega.{arith}
 use Rattle.replay.proofs.next_call.Goals as goal
 
-pub returns-then-answer-eq3 : goal.returns-then-answer-eq3
-unfolding next_call
-returns-then-answer-eq3 c = rw (eq-eqb _ _ c.if-answer-eq3.true)
-
-pub returns-then-call-lt18446744073709551615 : goal.returns-then-call-lt18446744073709551615
-unfolding next_call
-returns-then-call-lt18446744073709551615 c = rw (ne_eqb _ _ c.if-answer-eq3.false, lt-ltb _ _ c.if-call-lt18446744073709551615.true)
+pub returns-then-answer-from : goal.returns-then-answer-from
+unfolding next_call number
+returns-then-answer-from c = rw (eq-eqb c.args.answer 3 (c.if-answer-from.true ∙ c.from.ensures))
 
 pub returns : goal.returns
-unfolding next_call
-returns c = rw (ne_eqb _ _ c.if-answer-eq3.false, le-ltb _ _ c.if-call-lt18446744073709551615.false)
+unfolding next_call number
+returns c = rw (ne_eqb c.args.answer 3 (λ e. c.if-answer-from.false (e ∙ sym c.from.ensures))) (c.saturating_add.ensures ∙ next_number c.args.call (omega arith))

@@ -4,4 +4,4 @@ use Rattle.run.proofs.replay_known.Goals as goal
 
 pub returns : goal.returns
 returns c =
-    known_steps c.args.t c.args.buf.now (lent_to c.args.counters.now c.args.mem.now c.args.store.now) c.args.out.now c.args.lines.now c.part_of-input.ensures c.start-p.ensures c.run_steps.ensures
+    known_steps c.args.t c.args.buf.now (lent_to c.args.counters.now c.args.mem.now c.args.store.now) c.args.out.now c.args.lines.now c.first_of-input.ensures c.start.ensures c.run_steps.ensures

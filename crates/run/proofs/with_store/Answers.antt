@@ -2,4 +2,4 @@ use Rattle.run.proofs.Turning.{with_empty_store}
 use Rattle.run.proofs.with_store.Goals as goal
 
 pub returns : goal.returns
-returns g c = with_empty_store c.empty_block-zero.ensures c.with_counters.ensures
+returns g c = with_empty_store c.with_counters.ensures

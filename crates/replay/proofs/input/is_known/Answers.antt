@@ -10,6 +10,6 @@ pub returns-then-not-is_sized : goal.returns-then-not-is_sized
 unfolding known
 returns-then-not-is_sized c = rw (le-leb _ _ c.if-rest-lt-HEADER.false, ← c.u32_at-n.ensures, ← c.is_sized.ensures, c.if-not-is_sized.true)
 
-pub returns : goal.returns
+pub returns-else-not-is_sized : goal.returns-else-not-is_sized
 unfolding known
-returns c = rw (le-leb _ _ c.if-rest-lt-HEADER.false, ← c.u32_at-n.ensures, ← c.is_sized.ensures, c.if-not-is_sized.false)
+returns-else-not-is_sized c = rw (le-leb _ _ c.if-rest-lt-HEADER.false, ← c.u32_at-n.ensures, ← c.is_sized.ensures, c.if-not-is_sized.false)
