@@ -10,12 +10,13 @@ ghost use Rattle.std.specs.Prelude.{◌≡◌, ◌+◌, ◌≤◌, length, repli
 ghost use Rattle.codec.specs.Bytes.{part, patch};
 
 // The bytes v, from place at on.
-#[tactic(auto, using(crate::proofs::Library::written))]
 pub fn put(mem: &mut [u8], at: usize, v: &[u8])
     requires { at + length v.now ≤ length mem.old }
     ensures { mem.new ≡ patch mem.old at v.now }
 {
-    mem[at..at + v.len()].copy_from_slice(v);
+    for i in 0..v.len() {
+        mem[at + i] = v[i];
+    }
 }
 
 // n zero bytes from place at on.
