@@ -209,6 +209,17 @@ fn the_header_declares_every_call() {
     assert_eq!(declared, exported);
 }
 
+/// What the library needs from outside is what docs/INTERFACE.md says: two functions that every C library has, or a host without one writes.
+#[test]
+fn the_library_needs_two_functions() {
+    let symbols = text(Command::new("nm").args(["-g", "--undefined-only"]).arg(archive()));
+    let mut needed: Vec<&str> = symbols.lines().filter_map(|line| line.split_once(" U ").map(|(_, name)| name)).collect();
+    needed.sort_unstable();
+    assert_eq!(needed, ["memcpy", "memset"]);
+    let interface = fs::read_to_string(root().join("docs/INTERFACE.md")).expect("docs/INTERFACE.md");
+    assert!(interface.contains("needs `memcpy` and `memset` alone"));
+}
+
 /// Lengths, and the place of every field, are those of the Rust side.
 #[test]
 fn the_header_has_the_layout() {
