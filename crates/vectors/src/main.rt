@@ -8,6 +8,7 @@ ghost use Rattle.std.specs.Prelude.{◌≤◌, ◌<◌, length, IfOk};
 ghost use Rattle.std.specs.Option.{SomeIff};
 ghost use Rattle.std.specs.Char.{digit_value};
 
+use codec::num::be_at;
 use std::io;
 use std::io::Read;
 
@@ -29,11 +30,13 @@ fn read_full(rt: &impl Input, space: &mut [u8]) -> io::Result<usize>
     Ok(done)
 }
 
+// As one write: a digest by bytes would be 32 of them.
 fn show(rt: &impl Print, digest: [u8; 32]) -> io::Result<()> {
-    for byte in digest {
-        print!(rt; "{byte:02x}")?;
-    }
-    Ok(())
+    let first = be_at(&digest, 0, 8);
+    let second = be_at(&digest, 8, 8);
+    let third = be_at(&digest, 16, 8);
+    let last = be_at(&digest, 24, 8);
+    print!(rt; "{first:016x}{second:016x}{third:016x}{last:016x}")
 }
 
 fn answer(rt: &impl Print, message: &[u8]) -> io::Result<()> {
