@@ -42,7 +42,7 @@ fn send_ballot(
     ensures { Does (send_ballot (number kind) row vote.view.0 vote.name) d mem.old out.old result mem.new out.new }
 {
     let me = own(mem);
-    put_vote(out, d.at, kind, me, vote);
+    put_vote(out, d.at, kind.into(), me, vote);
     keep(mem, row, me as usize, &vote.name);
     Draft {
         at: d.at + length::VOTE,

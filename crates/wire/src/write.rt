@@ -1,7 +1,6 @@
 // Writers: each puts one record into a region, at a place.
 ghost use Rattle.std.specs.Prelude.{◌≡◌, ◌+◌, ◌-◌, ◌^◌, ◌≤◌, ◌<◌, length};
 ghost use Rattle.codec.specs.Bytes.{patch};
-ghost use Rattle.wire.specs.Kinds.{number};
 ghost use Rattle.wire.specs.Encode.{header_bytes, named_bytes, vote_bytes, block_certificate_bytes, timeout_head, timeout_bytes, timeouts_head_bytes, proposal_head_bytes, proposal_bytes, release_bytes};
 ghost use Rattle.wire.specs.Fields.{header_length, vote_length, block_certificate_length, timeout_length, timeouts_head, proposal_head, release_length};
 
@@ -10,12 +9,12 @@ use codec::num::{put_le, put_u16, put_u32, put_u64};
 use codec::{clear, put, put_name};
 use settings::View;
 
-fn put_header(out: &mut [u8], at: usize, size: usize, kind: Kind, sender: u16)
+fn put_header(out: &mut [u8], at: usize, size: usize, kind: u16, sender: u16)
     requires { (at + header_length ≤ length out.old) × (size < 2 ^ 32) }
-    ensures { out.new ≡ patch out.old at (header_bytes size (number kind) sender) }
+    ensures { out.new ≡ patch out.old at (header_bytes size kind sender) }
 {
     put_u32(out, at, size as u32);
-    put_u16(out, at + 4, kind.into());
+    put_u16(out, at + 4, kind);
     put_u16(out, at + 6, sender);
 }
 
@@ -24,24 +23,24 @@ fn put_named(
     out: &mut [u8],
     at: usize,
     size: usize,
-    kind: Kind,
+    kind: u16,
     sender: u16,
     view: View,
     name: [u8; 32],
 )
     requires { (at + vote_length ≤ length out.old) × (size < 2 ^ 32) }
-    ensures { out.new ≡ patch out.old at (named_bytes size (number kind) sender view.0 name) }
+    ensures { out.new ≡ patch out.old at (named_bytes size kind sender view.0 name) }
 {
     put_header(out, at, size, kind, sender);
     put_u64(out, at + 8, view.0);
     put_name(out, at + 16, name);
 }
 
-// A vote or a commit.
+// A vote or a commit, by the kind's number.
 #[tactic(auto, unfolding(crate::specs::Encode::named_bytes, crate::specs::Encode::vote_bytes))]
-pub fn put_vote(out: &mut [u8], at: usize, kind: Kind, sender: u16, vote: Vote)
+pub fn put_vote(out: &mut [u8], at: usize, kind: u16, sender: u16, vote: Vote)
     requires { at + vote_length ≤ length out.old }
-    ensures { out.new ≡ patch out.old at (vote_bytes (number kind) sender vote.view.0 vote.name) }
+    ensures { out.new ≡ patch out.old at (vote_bytes kind sender vote.view.0 vote.name) }
 {
     put_named(out, at, length::VOTE, kind, sender, vote.view, vote.name);
 }
@@ -54,7 +53,7 @@ pub fn put_block_certificate(out: &mut [u8], at: usize, sender: u16, vote: Vote,
         out,
         at,
         length::BLOCK_CERTIFICATE,
-        Kind::BlockCertificate,
+        Kind::BlockCertificate.into(),
         sender,
         vote.view,
         vote.name,
@@ -70,7 +69,7 @@ pub fn put_release(out: &mut [u8], at: usize, sender: u16, release: Release)
         out,
         at,
         length::RELEASE,
-        Kind::Release,
+        Kind::Release.into(),
         sender,
         release.view,
         release.name,
@@ -83,7 +82,7 @@ fn put_timeout_head(out: &mut [u8], at: usize, t: Timeout)
     requires { at + 56 ≤ length out.old }
     ensures { out.new ≡ patch out.old at (timeout_head t) }
 {
-    put_header(out, at, length::TIMEOUT, Kind::Timeout, t.sender);
+    put_header(out, at, length::TIMEOUT, Kind::Timeout.into(), t.sender);
     put_u64(out, at + 8, t.view.0);
     put_u64(out, at + 16, t.high.view.0);
     put_name(out, at + 24, t.high.name);
@@ -110,7 +109,7 @@ pub fn put_timeouts_head(out: &mut [u8], at: usize, sender: u16, view: View, siz
         out,
         at,
         length::TIMEOUTS_HEAD + size,
-        Kind::TimeoutCertificate,
+        Kind::TimeoutCertificate.into(),
         sender,
     );
     put_u64(out, at + 8, view.0);
@@ -134,7 +133,7 @@ pub fn put_proposal_head(
         out,
         at,
         length::PROPOSAL_HEAD + size,
-        Kind::Proposal,
+        Kind::Proposal.into(),
         sender,
         view,
         child.name,

@@ -15,6 +15,6 @@ returns c = let a = c.args in
     let size : length a.vote.name ≡ 32 = search rules in
     whole (block_certificate_bytes a.sender a.vote.view.0 a.vote.name a.signers)
     (next (le_bytes 8 a.signers) 8
-    (first a.out.now a.at (named_bytes 56 3 a.sender a.vote.view.0 a.vote.name) c.put_named.ensures (length_named 56 3 a.sender a.vote.view.0 a.vote.name size))
+    (first a.out.now a.at (named_bytes 56 3 a.sender a.vote.view.0 a.vote.name) (rw c.into.ensures at c.put_named.ensures) (length_named 56 3 a.sender a.vote.view.0 a.vote.name size))
     c.put_u64.ensures (length-le_bytes 8 a.signers))
     (simp append_assoc)

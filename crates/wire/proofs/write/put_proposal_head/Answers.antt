@@ -18,7 +18,7 @@ returns c = let size : length c.args.child.name ≡ 32 = search rules in
     whole (proposal_head_bytes a.sender a.view.0 a.child.name a.child.parent a.child.height.0 a.size)
     (next (le_bytes 8 a.child.height.0) 8
     (next a.child.parent 32
-    (first a.out.now a.at (named_bytes (88 + a.size) 7 a.sender a.view.0 a.child.name) c.put_named.ensures (length_named (88 + a.size) 7 a.sender a.view.0 a.child.name size))
+    (first a.out.now a.at (named_bytes (88 + a.size) 7 a.sender a.view.0 a.child.name) (rw c.into.ensures at c.put_named.ensures) (length_named (88 + a.size) 7 a.sender a.view.0 a.child.name size))
     c.put_name.ensures size-2)
     c.put_u64.ensures (length-le_bytes 8 a.child.height.0))
     (simp append_assoc)

@@ -15,6 +15,6 @@ returns c = let a = c.args in
     let size : length a.release.name ≡ 32 = search rules in
     whole (release_bytes a.sender a.release.view.0 a.release.name a.release.height.0)
     (next (le_bytes 8 a.release.height.0) 8
-    (first a.out.now a.at (named_bytes 56 9 a.sender a.release.view.0 a.release.name) c.put_named.ensures (length_named 56 9 a.sender a.release.view.0 a.release.name size))
+    (first a.out.now a.at (named_bytes 56 9 a.sender a.release.view.0 a.release.name) (rw c.into.ensures at c.put_named.ensures) (length_named 56 9 a.sender a.release.view.0 a.release.name size))
     c.put_u64.ensures (length-le_bytes 8 a.release.height.0))
     (simp append_assoc)

@@ -17,7 +17,7 @@ returns c = let size : length c.args.t.high.name ≡ 32 = search rules in
     (next a.t.high.name 32
     (next (le_bytes 8 a.t.high.view.0) 8
     (next (le_bytes 8 a.t.view.0) 8
-    (first a.out.now a.at (header_bytes 112 5 a.t.sender) c.put_header.ensures (length_header 112 5 a.t.sender))
+    (first a.out.now a.at (header_bytes 112 5 a.t.sender) (rw c.into.ensures at c.put_header.ensures) (length_header 112 5 a.t.sender))
     c.put_u64.ensures (length-le_bytes 8 a.t.view.0))
     c.put_u64-2.ensures (length-le_bytes 8 a.t.high.view.0))
     c.put_name.ensures size)

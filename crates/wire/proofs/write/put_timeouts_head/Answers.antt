@@ -14,7 +14,7 @@ returns c = let a = c.args in
     (next (le_bytes 6 (0)) 6
     (next (le_bytes 2 (a.size / 112)) 2
     (next (le_bytes 8 a.view.0) 8
-    (first a.out.now a.at (header_bytes (24 + a.size) 6 a.sender) c.put_header.ensures (length_header (24 + a.size) 6 a.sender))
+    (first a.out.now a.at (header_bytes (24 + a.size) 6 a.sender) (rw c.into.ensures at c.put_header.ensures) (length_header (24 + a.size) 6 a.sender))
     c.put_u64.ensures (length-le_bytes 8 a.view.0))
     c.put_le.ensures (length-le_bytes 2 (a.size / 112)))
     (rw zeros c.clear.ensures) (length-le_bytes 6 (0)))
