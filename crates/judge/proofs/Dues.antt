@@ -26,7 +26,9 @@ use Rattle.protocol.specs.Calls.{◌then◌}
 use Rattle.protocol.proofs.Branch.{by_kind}
 use Rattle.refusals.specs.Number.{first_of, or_else, numbered}
 use Rattle.refusals.specs.Early.{proposal_first, early_propose}
-use Rattle.refusals.proofs.Numbers.{passes, first_then, numbered_then}
+use Rattle.settings.specs.declared.refusal.Refusal.{Refusal}
+use Rattle.settings.specs.Refusal.{number}
+use Rattle.refusals.proofs.Numbers.{passes, first_then, numbered_then, some_number}
 use Rattle.judge.specs.Want.{Wanted, nothing, names, safe_block}
 use Rattle.judge.specs.Late.{looked_up, late_first}
 use Rattle.judge.specs.Contents.{behind, digest_number, digest_due, record_due, propose_want_with, propose_due}
@@ -233,3 +235,8 @@ height_first found under e =
     let b = passes _ _ refl a.1 in
     let d = passes _ _ refl b.1 in
     omega (arith, ltb-false last_height (suc under.block.height.0) d.0)
+
+-- ---- a propose that is refused before the store is asked: its contents refuse it for their length alone
+pub nothing_due : (n k : List ℕ) (r : Refusal) (x y : Found) → cond (eqb (number r) 16) 16 0 ≡ propose_due n (nothing (number r)) x y k
+unfolding propose_due
+nothing_due n k r x y = rw (ne_eqb (number r) 0 (some_number r))

@@ -114,7 +114,7 @@ fn next_child(name: [u8; 32], want: Want, lower: Block) -> Child
 }
 
 // 17 of propose, of which `propose_want` wanted these two blocks.
-pub fn propose_due(
+fn due_on_blocks(
     name: [u8; 32],
     want: Want,
     found: Option<Block>,
@@ -137,5 +137,21 @@ pub fn length_refusal(refusal: Refusal) -> Result<(), Refusal>
     match refusal {
         Refusal::ContentsTooLong => Err(refusal),
         _ => Ok(()),
+    }
+}
+
+// What contents refuse a propose by, after `propose_want` and with the two blocks that it wanted; where it refused the propose itself, no block is asked.
+pub fn propose_due(
+    name: [u8; 32],
+    want: Result<Want, Refusal>,
+    found: Option<Block>,
+    under: Option<Block>,
+    contents: &[u8],
+) -> Result<(), Refusal>
+    ensures { refused result ≡ propose_due name (wanted want) (found_of found) (found_of under) contents.now }
+{
+    match want {
+        Ok(want) => due_on_blocks(name, want, found, under, contents),
+        Err(refusal) => length_refusal(refusal),
     }
 }

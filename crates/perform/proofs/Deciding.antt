@@ -34,7 +34,7 @@ use Rattle.settings.specs.declared.Height.{Height}
 use Rattle.settings.specs.Refusal.{number, refused}
 use Rattle.refusals.proofs.Numbers.{some_number, else_some, else_none, else_both}
 use Rattle.judge.specs.declared.Want.{Want}
-use Rattle.judge.specs.Want.{Wanted, wanted, asked, record_want, propose_want}
+use Rattle.judge.specs.Want.{Wanted, wanted, accepted, asked, record_want, propose_want}
 use Rattle.judge.specs.Late.{looked_up, late_rules, late_propose, record_late, propose_late}
 use Rattle.judge.proofs.Whole.{record_judged_lem, record_passed, record_whole, propose_judged_lem, propose_passed, timer_judged_lem}
 use Rattle.act.specs.declared.Draft.{Draft}
@@ -67,6 +67,19 @@ shown : {A : Type 0} (r : Result A Refusal) (P Q : A → Type 0) → ((a : A) �
 unfolding refused
 shown (Ok a) P Q f h = f a refl h
 shown (Err e) P Q f h = h
+
+-- ---- the two parts of a judgement: refused before the store is asked, or by what was found
+pub passed_early : {A : Type 0} (l : ℕ) {p : Result Want Refusal} {q : Result A Refusal} {r t : Refusal} → p ≡ Err r → q ≡ Err t → t ≡ r → refused q ≡ or_else (wanted p).refusal l
+unfolding wanted refused
+passed_early l {p} {q} {r} {t} e f g = rw (e, f, g) (sym (else_some (number r) l (some_number r)))
+
+pub not_early : {p : Result Want Refusal} {w : Want} → p ≡ Ok w → (wanted p).refusal ≡ 0
+unfolding wanted
+not_early e = rw e
+
+pub judged_late : {p : Result Want Refusal} {w : Want} {k : ℕ} (f : Wanted → ℕ) → p ≡ Ok w → k ≡ f (accepted w) → k ≡ or_else (wanted p).refusal (f (wanted p))
+unfolding wanted or_else
+judged_late f e h = rw e h
 
 -- ---- refused before the store is asked
 pub judges_early : {A : Type 0} (called : Work → ℕ) (such : A → Work → Type 0) (W : Work) (w : Wanted) (l : ℕ) {p : Result Want Refusal} {q : Result A Refusal} {r t : Refusal}

@@ -20,6 +20,7 @@ use Rattle.act.specs.Draft.{left, left_by, Ready}
 use Rattle.event.specs.Event.{filled}
 use Rattle.rules.specs.Phases.{phases}
 use Rattle.perform.specs.declared.Done.{Done}
+use Rattle.perform.specs.declared.Judged.{Judged}
 
 -- ---- THE NUMBER of each call, by the lists of `protocol`: 0 where none of its rules applies
 unfoldable pub timer_number : ℕ → ℕ → Work → ℕ
@@ -42,6 +43,10 @@ ProposeFound room x w found under W = LookedUp (λ (X : Work). propose_want X ro
 
 abbrev pub RecordFound : ℕ → List ℕ → Wanted → Found → Found → Work → Type 0
 RecordFound room r w found under W = LookedUp (λ (X : Work). record_want X room r) w found under W
+
+-- what was found, as an accepted call is told it
+unfoldable pub judged_by : Found → Found → Judged
+judged_by found under = record { held = found.is; below = under.block.height }
 
 -- a call is rightly judged: its refusal is that of the lists, and of an accepted one it is known what the event asks of the store
 pub record Judges {A : Type 0} (number : Work → ℕ) (such : A → Work → Type 0) (result : Result A Refusal) (W : Work) : Type 0 where

@@ -11,15 +11,15 @@ ghost use Rattle.wire.specs.Content.{content};
 ghost use Rattle.wire.specs.Shape.{bad_length};
 ghost use Rattle.memory.specs.Layout.{block_count_of};
 ghost use Rattle.protocol.specs.Events.{on_record, on_timer, on_propose};
-ghost use Rattle.refusals.specs.Number.{first_of};
+ghost use Rattle.refusals.specs.Number.{first_of, or_else};
 ghost use Rattle.refusals.specs.Early.{lent};
 ghost use Rattle.blocks.specs.Store.{found_of};
-ghost use Rattle.judge.specs.Want.{accepted};
+ghost use Rattle.judge.specs.Want.{wanted};
 ghost use Rattle.judge.specs.Late.{late_rules, late_propose};
 ghost use Rattle.act.specs.Draft.{Does, Ready};
 ghost use Rattle.event.specs.Event.{Always, Asked, Proposable};
 ghost use Rattle.rules.specs.Phases.{phases};
-ghost use Rattle.perform.specs.Perform.{rules_room, releases_room, Completes, Lent, Accepted, timer_number, propose_number, record_number};
+ghost use Rattle.perform.specs.Perform.{judged_by, rules_room, releases_room, Completes, Lent, Accepted, timer_number, propose_number, record_number};
 
 use act::Draft;
 use blocks::Block;
@@ -41,32 +41,56 @@ pub struct Done {
     pub turns: usize,
 }
 
-// The judgement of a record, of which `judge` wanted these two blocks: its refusal, or whether its block is held.
-pub fn late_record(
-    rec: &[u8],
-    want: Want,
-    found: Option<Block>,
-    under: Option<Block>,
-) -> Result<bool, Refusal>
-    requires { bad_length rec.now ≡ false }
-    ensures refusal { refused result ≡ first_of (late_rules (accepted want) (found_of found) (found_of under) (content rec.now)) }
-    ensures held { IfOk result (λ held. held ≡ (found_of found).is) }
-{
-    record_chain(rec, want, found, under)?;
-    Ok(found.is_some())
+// What an accepted call is to know of the store: whether its block is held, and the height of the block below.
+#[derive(Clone, Copy)]
+pub struct Judged {
+    pub held: bool,
+    pub below: Height,
 }
 
-// The judgement of a name to propose, of which `judge` wanted these two blocks: its refusal, or the height of the block below.
-pub fn late_propose(
-    want: Want,
+// Where no block is below, the height is that of genesis.
+#[tactic(auto, unfolding(crate::specs::Perform::judged_by))]
+fn as_judged(found: Option<Block>, under: Option<Block>) -> Judged
+    ensures { result ≡ judged_by (found_of found) (found_of under) }
+{
+    let below = match under {
+        Some(lower) => lower.height,
+        None => Height(0),
+    };
+    Judged {
+        held: found.is_some(),
+        below,
+    }
+}
+
+// The judgement of a record: what `judge` refused it by, or with the two blocks that `judge` wanted the rest.
+pub fn late_record(
+    rec: &[u8],
+    want: Result<Want, Refusal>,
     found: Option<Block>,
     under: Option<Block>,
-) -> Result<Height, Refusal>
-    ensures refusal { refused result ≡ first_of (late_propose (accepted want) (found_of found) (found_of under)) }
-    ensures below { IfOk result (λ below. below ≡ (found_of under).block.height) }
+) -> Result<Judged, Refusal>
+    requires { (wanted want).refusal ≡ 0 → bad_length rec.now ≡ false }
+    ensures refusal { refused result ≡ or_else (wanted want).refusal (first_of (late_rules (wanted want) (found_of found) (found_of under) (content rec.now))) }
+    ensures found { IfOk result (λ j. j ≡ judged_by (found_of found) (found_of under)) }
 {
-    let lower = propose_chain(want, found, under)?;
-    Ok(lower.height)
+    let asked = want?;
+    record_chain(rec, asked, found, under)?;
+    Ok(as_judged(found, under))
+}
+
+// The judgement of a name to propose, in the same way.
+pub fn late_propose(
+    want: Result<Want, Refusal>,
+    found: Option<Block>,
+    under: Option<Block>,
+) -> Result<Judged, Refusal>
+    ensures refusal { refused result ≡ or_else (wanted want).refusal (first_of (late_propose (wanted want) (found_of found) (found_of under))) }
+    ensures found { IfOk result (λ j. j ≡ judged_by (found_of found) (found_of under)) }
+{
+    let named = want?;
+    propose_chain(named, found, under)?;
+    Ok(as_judged(found, under))
 }
 
 // The rules after an event, and the number of held blocks.

@@ -35,6 +35,7 @@ use Rattle.refusals.specs.Early.{lent}
 use Rattle.judge.specs.declared.Want.{Want}
 use Rattle.judge.specs.Late.{looked_up}
 use Rattle.judge.specs.Contents.{record_due, propose_want_with, propose_due, propose_refusal}
+use Rattle.judge.proofs.Dues.{nothing_due}
 use Rattle.judge.proofs.Whole.{record_core_with_lem, propose_core_with_lem}
 use Rattle.act.specs.declared.Draft.{Draft}
 use Rattle.act.specs.Draft.{work_of, left, left_by}
@@ -156,10 +157,6 @@ propose_refusal_is c m s room n k w found under wanted f u e =
     e ∙ ap (λ (y : Found). propose_due n w y under k) f ∙ ap (λ (y : Found). propose_due n w (looked_up W w w.name) y k) u ∙ ap (λ (v : Wanted). propose_due n v (looked_up W v v.name) (looked_up W v v.base) k) wanted
 
 -- where nothing is to be looked up, its contents refuse it for their length alone
-nothing_due : (n k : List ℕ) (r : Refusal) (x y : Found) → cond (eqb (number r) 16) 16 0 ≡ propose_due n (nothing (number r)) x y k
-unfolding propose_due
-nothing_due n k r x y = rw (ne_eqb (number r) 0 (some_number r))
-
 pub propose_unwanted_is : (c : Counters) (m : List ℕ) (s : List Block) (room : ℕ) (n k : List ℕ) (r : Refusal) {p : Result Want Refusal} {due : ℕ} → wanted p ≡ propose_want_with (lent c m s) room n k → p ≡ Err r
     → due ≡ cond (eqb (number r) 16) 16 0 → due ≡ propose_refusal (lent c m s) room n k
 unfolding propose_refusal wanted

@@ -123,7 +123,7 @@ fn record_judged(
 {
     let want = judge::record(counters, mem, store.len(), room, rec)?;
     let (found, under) = wanted_blocks(store, counters.tip, want);
-    late_record(rec, want, found, under)
+    Ok(late_record(rec, Ok(want), found, under)?.held)
 }
 
 // A record that is accepted, and whether its block is held already: the number of bytes written.
@@ -260,7 +260,7 @@ fn propose_judged(
 {
     let want = judge::propose(counters, mem, store.len(), room, name.bytes)?;
     let (found, under) = wanted_blocks(store, counters.tip, want);
-    late_propose(want, found, under)
+    Ok(late_propose(Ok(want), found, under)?.below)
 }
 
 // A propose that is accepted, and the height of the block below: the number of bytes written.
@@ -323,7 +323,7 @@ fn propose_refusal(
     match propose_want(counters, mem, store.len(), room, name.bytes, contents) {
         Ok(want) => {
             let (found, under) = wanted_blocks(store, counters.tip, want);
-            propose_due(name.bytes, want, found, under, contents)
+            propose_due(name.bytes, Ok(want), found, under, contents)
         }
         Err(refusal) => length_refusal(refusal),
     }

@@ -1,11 +1,15 @@
 -- What was wanted, and what the store holds of it: `perform` judges by these.
-use mathlib.Core.Path.{refl, sym, ◌∙◌}
-use Rattle.std.proofs.lemmas.Result.{err_from_is_err_and}
+use mathlib.Core.Path.{refl, sym, ap, ◌∙◌}
+use Rattle.std.proofs.lemmas.Result.{err_from_is_err_and, IfOk-at_ok}
+use Rattle.settings.specs.Refusal.{refused}
+use Rattle.refusals.specs.Number.{or_else}
 use Rattle.refusals.specs.Early.{lent}
-use Rattle.judge.specs.Want.{propose_want}
+use Rattle.refusals.proofs.Numbers.{passed_on, refused_none}
+use Rattle.judge.specs.Want.{wanted, propose_want}
 use Rattle.judge.specs.Late.{propose_late}
 use Rattle.judge.proofs.Wants.{wanted_ok}
-use Rattle.perform.specs.Perform.{propose_number}
+use Rattle.perform.specs.declared.Judged.{Judged}
+use Rattle.perform.specs.Perform.{judged_by, propose_number}
 use Rattle.perform.proofs.Deciding.{judges_early, propose_judges}
 use Rattle.replica.proofs.propose_judged.Goals as goal
 
@@ -14,5 +18,11 @@ unfolding propose_number
 returns-in_err-want c = let p = err_from_is_err_and c.from_residual.result c.from_residual.ensures.1 in
     judges_early _ _ (lent c.args.counters c.args.mem.now c.args.store.now) _ (propose_late (lent c.args.counters c.args.mem.now c.args.store.now) (propose_want (lent c.args.counters c.args.mem.now c.args.store.now) c.args.room c.args.name.bytes)) refl (c.propose.ensures c.args.store.now refl) c.in_err-want.was p.1 p.2
 
+pub returns-in_err-late_propose : goal.returns-in_err-late_propose
+unfolding wanted or_else
+returns-in_err-late_propose c = let p = err_from_is_err_and c.from_residual-in_err-late_propose.result c.from_residual-in_err-late_propose.ensures.1 in
+    propose_judges c.args.room c.args.name.bytes (lent c.args.counters c.args.mem.now c.args.store.now) _ _ _ (record { want = (sym (wanted_ok _) ∙ (rw c.in_ok-want.was at (c.propose.ensures c.args.store.now refl))); found = c.wanted_blocks-found.ensures.found; under = c.wanted_blocks-found.ensures.under }) _ refl (passed_on c.in_err-late_propose.was p.1 p.2 ∙ c.late_propose.ensures.refusal) (rw p.1 tt)
+
 pub returns : goal.returns
-returns c = propose_judges c.args.room c.args.name.bytes (lent c.args.counters c.args.mem.now c.args.store.now) _ _ _ (record { want = (sym (wanted_ok _) ∙ (rw c.in_ok-want.was at (c.propose.ensures c.args.store.now refl))); found = c.wanted_blocks-found.ensures.found; under = c.wanted_blocks-found.ensures.under }) _ refl c.late_propose.ensures.refusal c.late_propose.ensures.below
+unfolding wanted or_else refused judged_by
+returns c = propose_judges c.args.room c.args.name.bytes (lent c.args.counters c.args.mem.now c.args.store.now) _ _ _ (record { want = (sym (wanted_ok _) ∙ (rw c.in_ok-want.was at (c.propose.ensures c.args.store.now refl))); found = c.wanted_blocks-found.ensures.found; under = c.wanted_blocks-found.ensures.under }) _ refl (sym (refused_none c.in_ok-late_propose.was) ∙ c.late_propose.ensures.refusal) (ap (λ (j : Judged). j.below) (IfOk-at_ok _ c.in_ok-late_propose.was c.late_propose.ensures.found))
