@@ -1,6 +1,5 @@
 -- Laws of specs/Replay.antt for the functions over what is lent: a call that is made, a piece that is taken, and all of them. Assumes nothing.
-use Prim.Native.Nat.{ℕ, suc, ◌+◌, ◌≤◌, ◌<◌}
-use native.Mathlib.Nat.{le_refl}
+use Prim.Native.Nat.{ℕ, suc, ◌+◌, ◌-◌, ◌≤◌, ◌<◌}
 use native.Mathlib.Omega.{arith}
 use mathlib.Core.Path.{◌≡◌, refl, sym, ap, ◌∙◌}
 use mathlib.Core.Bool.{Bool, true, false, cond}
@@ -25,7 +24,6 @@ use Rattle.replay.specs.Replay.{Answered, after_answer, answered, opens_with, go
 use Rattle.replay.specs.Requests.{asked_of, Told, told, told_front, request_at}
 use Rattle.replay.proofs.Laws.{going, ready_some}
 use Rattle.replay.proofs.Cutting.{used_some, used_within}
-use Rattle.replay.proofs.Whole.{rest, step_less, steps_settle, steps_end}
 
 -- ---- calls
 -- the number of a reply is that of its answer
@@ -101,22 +99,13 @@ piece_taken {c} {m} {s} {o'} {lines'} {r} {place} ended input lines at p o q n m
     rw (n.goes, put.0, put.1, n.used)
     (ap (λ (z : Answered). standing z.replica z.output (with_line lines at z.answer z.replica.counters) (behind at (used (drop at.at input)) z.answer)) x)
 
--- ---- all pieces, one after another
-module _ (ended : Bool) (input : List ℕ) (first : Standing) where
-  -- so far: the steps from here on leave what those from the first place on do
-  abbrev pub Reaches : Standing → Type 0
-  Reaches s = (k : ℕ) → length (rest input s) ≤ k → steps ended input k s ≡ steps ended input (length input) first
-
-  pub at_first : Reaches first
-  at_first k h = steps_settle ended input k (length input) first h (let l = length-drop first.place.at input in omega (arith, l))
-
-  pub one_more : (s s' : Standing) → goes ended input (length s.lines) s.place ≡ true → s' ≡ step ended input s → Reaches s → Reaches s'
+-- ---- so many pieces, one after another
+module _ (ended : Bool) (input : List ℕ) where
+  -- where a piece is taken, one fewer is left
+  pub one_more : (s s' : Standing) (i k : ℕ) → i < k → s' ≡ step ended input s → steps ended input (k - (i + 1)) s' ≡ steps ended input (k - i) s
   unfolding steps
-  one_more s s' g e f k h =
-      let n : ℕ = length (rest input s) in
-      let less = step_less ended input s g in
-      let k' : length (rest input (step ended input s)) ≤ k = rw e at h in
-      rw e (steps_settle ended input k n (step ended input s) k' (omega (arith, less)) ∙ f (suc n) (omega arith))
+  one_more s s' i k h e = let f : k - i ≡ suc (k - (i + 1)) = omega arith in rw (e, f)
 
-  pub none_left : (s : Standing) → goes ended input (length s.lines) s.place ≡ false → Reaches s → s ≡ steps ended input (length input) first
-  none_left s g f = sym (steps_end ended input (length (rest input s)) s g) ∙ f (length (rest input s)) (le_refl (length (rest input s)))
+  pub no_more : (s : Standing) (i k : ℕ) → k ≤ i → s ≡ steps ended input (k - i) s
+  unfolding steps
+  no_more s i k h = let f : k - i ≡ 0 = omega arith in rw f

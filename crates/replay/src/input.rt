@@ -107,7 +107,7 @@ pub fn is_known(rest: &[u8]) -> bool
 }
 
 // It can be taken: where the input has ended, whatever is left of it.
-fn is_ready(rest: &[u8], ended: bool) -> bool
+pub fn is_ready(rest: &[u8], ended: bool) -> bool
     ensures { result ≡ ready ended rest.now }
 {
     if ended {

@@ -156,7 +156,7 @@ fn answer(
     }
 }
 
-// Every piece from the place on that can be taken, one after another.
+// Up to so many pieces from the place on, one after another.
 pub fn run_steps(
     counters: &mut Counters,
     mem: &mut [u8],
@@ -165,13 +165,17 @@ pub fn run_steps(
     input: &[u8],
     lines: &mut [u8],
     ended: bool,
+    most: usize,
     first: Place,
 ) -> Place
     ensures { standing (lent_to counters.new mem.new store.new) out.new lines.new result
-        ≡ steps ended input.now (length input.now) (standing (lent_to counters.old mem.old store.old) out.old lines.old first) }
+        ≡ steps ended input.now most (standing (lent_to counters.old mem.old store.old) out.old lines.old first) }
 {
     let mut p = first;
-    while let Some(request) = input::next_request(input, lines.len(), ended, p) {
+    'pieces: for _ in 0..most {
+        let Some(request) = input::next_request(input, lines.len(), ended, p) else {
+            return p;
+        };
         let answer = answer(counters, mem, store, out, request.asks);
         p = report(*counters, lines, request.used, answer, p);
     }

@@ -69,6 +69,7 @@ fn replay_known(
         input,
         lines,
         t.ended,
+        input.len(),
         start(t.next),
     )
 }
