@@ -102,10 +102,10 @@ piece_taken {c} {m} {s} {o'} {lines'} {r} {place} ended input lines at p o q n m
 -- ---- so many pieces, one after another
 module _ (ended : Bool) (input : List ℕ) where
   -- where a piece is taken, one fewer is left
-  pub one_more : (s s' : Standing) (i k : ℕ) → i < k → s' ≡ step ended input s → steps ended input (k - (i + 1)) s' ≡ steps ended input (k - i) s
+  pub one_more : (s s' : Standing) (k : ℕ) → 0 < k → s' ≡ step ended input s → steps ended input (k - 1) s' ≡ steps ended input k s
   unfolding steps
-  one_more s s' i k h e = let f : k - i ≡ suc (k - (i + 1)) = omega arith in rw (e, f)
+  one_more s s' k h e = let f : suc (k - 1) ≡ k = omega arith in rw e (ap (λ (n : ℕ). steps ended input n s) f)
 
-  pub no_more : (s : Standing) (i k : ℕ) → k ≤ i → s ≡ steps ended input (k - i) s
+  pub no_more : (s : Standing) (k : ℕ) → k ≡ 0 → s ≡ steps ended input k s
   unfolding steps
-  no_more s i k h = let f : k - i ≡ 0 = omega arith in rw f
+  no_more s k h = rw h

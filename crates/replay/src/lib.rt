@@ -172,12 +172,14 @@ pub fn run_steps(
         ≡ steps ended input.now most (standing (lent_to counters.old mem.old store.old) out.old lines.old first) }
 {
     let mut p = first;
-    'pieces: for _ in 0..most {
+    let mut left = most;
+    'pieces: while left > 0 {
         let Some(request) = input::next_request(input, lines.len(), ended, p) else {
             return p;
         };
         let answer = answer(counters, mem, store, out, request.asks);
         p = report(*counters, lines, request.used, answer, p);
+        left -= 1;
     }
     p
 }
