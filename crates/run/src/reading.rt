@@ -1,5 +1,6 @@
 // What is read: the first record, and then as many bytes as come, behind those at hand.
-ghost use Rattle.std.specs.Prelude.{◌≡◌, ◌≤◌, length};
+ghost use Rattle.std.specs.Prelude.{◌≡◌, ◌+◌, ◌≤◌, length};
+ghost use Rattle.codec.specs.Bytes.{part, patch};
 ghost use Rattle.run.specs.Running.{FirstRead, Refilled, Kept, goes_on};
 
 use crate::Turn;
@@ -41,6 +42,16 @@ pub fn goes_on(t: Turn) -> bool
     t.next != 0 && (!t.ended || 0 < t.have)
 }
 
+// n bytes from place at on are moved to the front.
+fn move_to_front(buf: &mut [u8], at: usize, n: usize)
+    requires { at + n ≤ length buf.old }
+    ensures { buf.new ≡ patch buf.old 0 (part buf.old at n) }
+{
+    for i in 0..n {
+        buf[i] = buf[at + i];
+    }
+}
+
 // What the turn has used up is dropped.
 pub fn keep(buf: &mut [u8], t: Turn, p: Place) -> Turn
     requires { t.have ≤ length buf.old }
@@ -53,7 +64,7 @@ pub fn keep(buf: &mut [u8], t: Turn, p: Place) -> Turn
             next: p.next,
         };
     }
-    buf.copy_within(p.at..t.have, 0);
+    move_to_front(buf, p.at, t.have - p.at);
     Turn {
         have: t.have - p.at,
         ended: t.ended,
