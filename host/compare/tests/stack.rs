@@ -10,11 +10,11 @@ use oracle::{block_name, wire, Block, Certificate, Faults, Height, Settings, Tim
 use replica::raw;
 use streams::{Call, DecisiveCall, DecisiveStream, NameCall, NameStream};
 
-/// What a call may take. Measured: 244,792 bytes where rule D releases a chain whose last two blocks stand the wrong way round.
+/// What a call may take. Measured: 81,888 bytes where a full store of one chain is released.
 const BOUND: usize = 384 * 1024;
-/// What the call that names the decisive timeout may take. Measured: 4,248 bytes.
+/// What the call that names the decisive timeout may take. Measured: 4,576 bytes.
 const BOUND_OF_DECISIVE: usize = 8 * 1024;
-/// What the call that names a block may take. Measured: 1,232 bytes.
+/// What the call that names a block may take. Measured: 1,280 bytes.
 const BOUND_OF_NAME: usize = 2 * 1024;
 /// What is painted, and the thread's stack.
 const PAINTED: usize = 512 * 1024;
